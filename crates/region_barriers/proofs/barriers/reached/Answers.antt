@@ -1,0 +1,10 @@
+use Rattle.std.proofs.Common.{leb, leb-true, rules}
+use Rattle.std.proofs.lemmas.Bool.{leb-false}
+use Rattle.std.proofs.lemmas.List.Sorted.{IsPartitionPoint-from_clause, IsPartitionedBy-leb}
+use Rattle.region_barriers.proofs.barriers.reached.Goals as goal
+
+pub returns-clause-parts : goal.returns-clause-parts
+returns-clause-parts c =
+    let parted = IsPartitionedBy-leb (λ b. b) _ c.args.seq c.requires in
+    let point = IsPartitionPoint-from_clause (λ b. leb b c.args.seq) _ _ c.partition_point.ensures.partitioned parted (λ a r q k. search rules) in
+    (λ k d low high. leb-true _ _ (point.0 k d low high), λ k d low high. leb-false _ _ (point.1 k d low high))

@@ -1,0 +1,14 @@
+-- Worked runs, computed: each is legal by the rows.
+mod DayOfMovesASplitAndACrash
+mod DeliveryStopsAtAClosedRegion
+mod FailedCallsLeaveWhatTheyMust
+mod FailedReplayIsMadeAgain
+mod FullLogIsRolledShippedAndSwept
+mod KeptTailIsClaimedAndShipped
+mod LateFlightIsStale
+mod LostIdsAreUsedAgain
+mod MoveHoldsTheNewServerBack
+mod PlainPeerBecomesSerial
+mod PromotionReplaysWhatWasMirrored
+mod RemoteCopyIsSweptOnceShipped
+mod SplitAndMergeHoldBack

@@ -1,0 +1,39 @@
+-- A seal keeps one whole frame of a dead server's tail; another server claims the queue and ships it before its own.
+use Rattle.std.specs.Prelude.{List, [], ◌∷◌, ◌++◌, refl, codes}
+use Rattle.rep_types.specs.declared.ids.Cluster.TheVariants.{A}
+use Rattle.rep_types.specs.declared.event.Event.TheVariants as event
+use Rattle.rep_types.specs.declared.refusal.Refusal.TheVariants as refusal
+use Rattle.rep_types.specs.declared.reply.Reply.TheVariants as reply
+use Rattle.rep_types.specs.declared.record.Record.{Record}
+use Rattle.rep_model.specs.Keyed.{given}
+use Rattle.rep_model.specs.LogEvents.{server_row, put_row, sync_row, crash_row, seal_row}
+use Rattle.rep_model.specs.RegionEvents.{table_row, open_begin_row, open_end_row, recover_row}
+use Rattle.rep_model.specs.PeerEvents.{peer_row}
+use Rattle.rep_model.specs.QueueEvents.{send_row, deliver_row, confirm_row, claim_row}
+use Rattle.rep_model.specs.Runs.{after, IsLegal}
+use Rattle.rep_model.proofs.Legal.{legal}
+use Rattle.rep_model.proofs.Openings.{does, write, serial_opening}
+
+abbrev journal : List Record
+journal =
+    serial_opening ++ (
+    does (event.Put A (codes "t") (codes "r1") (write 10 (codes "v"))) (reply.Accepted 1 2 1)
+    ∷ does (event.Put A (codes "t") (codes "r1") (write 11 (codes "w"))) (reply.Accepted 1 3 2)
+    ∷ does (event.Crash A 1) (reply.Crashed (1 ∷ 2 ∷ []))
+    ∷ does (event.Seal A 1) (reply.Sealed 1 1)
+    ∷ does (event.Recover A 1) reply.Done
+    ∷ does (event.OpenBegin A 1 2) (reply.Begun 3)
+    ∷ does (event.OpenEnd A 1) (reply.Marked 3 [])
+    ∷ does (event.Put A (codes "t") (codes "r1") (write 12 (codes "x"))) (reply.Accepted 1 4 3)
+    ∷ does (event.Sync A 2) (reply.Synced 1 (3 ∷ []))
+    ∷ does (event.Send A 1 2 25) (reply.Refused (refusal.Held (record { cluster = A; region = 1; seq = 2 })))
+    ∷ does (event.Send A 1 1 25) (reply.Refused (refusal.OwnerDead 1))
+    ∷ does (event.Claim A 2 1 1) reply.Done
+    ∷ does (event.Send A 1 1 25) (reply.Sent 1 1 1)
+    ∷ does (event.Deliver 1) (reply.All 1 [])
+    ∷ does (event.Confirm 1) (reply.Recorded 1)
+    ∷ [])
+
+it_is_legal : IsLegal journal
+unfolding given after server_row put_row sync_row crash_row seal_row table_row open_begin_row open_end_row recover_row peer_row send_row deliver_row confirm_row claim_row
+it_is_legal = legal journal refl refl

@@ -1,0 +1,30 @@
+use Rattle.std.proofs.Common.{◌≡◌, ◌+◌, ◌<◌, Some, None, length, arith, ap, sym, ◌∙◌}
+use Rattle.rep_model.specs.Delivering.{Takes}
+use Rattle.rep_model.specs.QueueEvents.{stopped}
+use Rattle.rep_model.proofs.Arriving.{delivered-stops, delivered-goes}
+use Rattle.rep_model.proofs.machine.Machine.deliver_all.Goals as goal
+
+pub returns-in-Some-clause-delivered : goal.returns-in-Some-clause-delivered
+returns-in-Some-clause-delivered c =
+    let p = c.args.peer in
+    let s = c.args.synchronous in
+    let k = c.args.cluster in
+    let forms = c.args.forms.now in
+    let m = c.loop-form.self in
+    let less : c.loop-form.form-index < length forms = omega arith in
+    let takes : Takes p s c.form-item.result k m (Some c.in-Some.cause) c.arrive.new.self = rw c.in-Some.is at c.in_ok-stop.ensures.takes in
+    let kept : c.arrive.new.self ≡ m = rw c.in-Some.is at c.in_ok-stop.ensures.kept in
+    let stops = delivered-stops p s k c.loop-form.arrived c.loop-form.form-index forms c.form-item.result m c.arrive.new.self c.in-Some.cause less c.form-item.is takes in
+    ap (λ x. stopped x c.loop-form.arrived c.in-Some.cause) kept ∙ sym stops ∙ c.loop-form.invariant.1
+
+pub loop-form-preserved : goal.loop-form-preserved
+loop-form-preserved c =
+    let p = c.args.peer in
+    let s = c.args.synchronous in
+    let k = c.args.cluster in
+    let forms = c.args.forms.now in
+    let m = c.loop-form.self in
+    let less : c.loop-form.form-index < length forms = omega arith in
+    let takes : Takes p s c.form-item.result k m None c.arrive.new.self = rw c.in-None.is at c.in_ok-stop.ensures.takes in
+    let goes = delivered-goes p s k c.loop-form.arrived c.loop-form.form-index forms c.form-item.result m c.arrive.new.self less c.form-item.is takes in
+    (ap (λ n. n + 1) c.loop-form.invariant.0, sym goes ∙ c.loop-form.invariant.1, c.in_ok-stop.ensures.tickets ∙ c.loop-form.invariant.2, c.in_ok-stop.ensures.flights ∙ c.loop-form.invariant.3)

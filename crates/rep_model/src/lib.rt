@@ -1,0 +1,31 @@
+//! The replication machine: its state, one row for each event, legal runs and the laws; and the
+//! same as a plain program.
+#![tactic(auto)]
+
+mod change;
+mod copies;
+mod deliver_row;
+mod flights;
+mod forms;
+mod frames;
+mod log_rows;
+mod lookup;
+mod machine;
+mod peer_row;
+mod places;
+mod put_row;
+mod queues;
+mod read_rows;
+mod region_rows;
+mod room;
+mod settle;
+mod side;
+mod step;
+mod tickets;
+mod views;
+
+pub use machine::{
+    Commit, Flight, Form, Hosted, Link, Machine, Peer, Pending, Queue, Region, RemoteCopy, Server,
+    Side, Standing, Table, Ticket, Told, Written,
+};
+pub use views::see;

@@ -1,0 +1,63 @@
+// How tickets end.
+ghost use Rattle.std.specs.Prelude.{◌≡◌, ◌^◌, ◌<◌, ◌&&◌, not, IfOk, length};
+ghost use Rattle.rep_model.specs.Tickets.{unless_told, tell_number, is_acknowledged, newly};
+
+use crate::{Ticket, Told};
+use rep_types::{Items, Memory, Tickets};
+use std::alloc::Global;
+
+fn unless_told(new: Told, old: Told) -> Told
+    ensures { result ≡ unless_told new old }
+{
+    match old {
+        Told::Pending => new,
+        _ => old,
+    }
+}
+
+/// The ticket, if there is one, is told so, unless it was told before.
+#[tactic(auto, unfolding(crate::specs::Keyed::given))]
+pub fn tell(tickets: &mut Items<Ticket>, ticket: Option<u32>, new: Told)
+    ensures told { tickets.new ≡ tell_number ticket new tickets.old }
+    ensures length { length tickets.new ≡ length tickets.old }
+{
+    let Some(number) = ticket else {
+        return;
+    };
+    let at = (number as usize).saturating_sub(1);
+    if at < tickets.len() {
+        let ticket = tickets.at_mut(at);
+        ticket.told = unless_told(new, ticket.told);
+    }
+}
+
+fn is_acknowledged(told: Told) -> bool
+    ensures { result ≡ is_acknowledged told }
+{
+    matches!(told, Told::Plain | Told::Synchronous { .. })
+}
+
+// Acknowledged now, and not before.
+fn is_new(before: Told, after: Told) -> bool
+    ensures { result ≡ (is_acknowledged after && not (is_acknowledged before)) }
+{
+    is_acknowledged(after) && !is_acknowledged(before)
+}
+
+/// The numbers of the tickets that are acknowledged now and weren't before, ascending.
+pub fn newly_acknowledged(
+    alloc: Global,
+    before: &[Ticket],
+    after: &[Ticket],
+) -> Result<Tickets, Memory>
+    requires { length before.now < 2 ^ 32 }
+    ensures { IfOk result (λ acks. acks ≡ newly is_acknowledged 1 before.now after.now) }
+{
+    let mut acks = Items::new(alloc);
+    for at in 0..before.len().min(after.len()) {
+        if is_new(before[at].told, after[at].told) {
+            acks.push(at as u32 + 1)?;
+        }
+    }
+    Ok(acks)
+}

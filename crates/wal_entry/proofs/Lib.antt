@@ -1,0 +1,15 @@
+pub mod Cell
+pub mod Cells
+pub mod Edit
+pub mod Fields
+pub mod Frame
+pub mod Items
+pub mod Loop
+pub mod Numbers
+pub mod Origin
+pub mod Parts
+pub mod Pieces
+pub mod Places
+pub mod Pushes
+pub mod Texts
+pub mod Verdicts

@@ -1,0 +1,7 @@
+pub mod Decoded
+pub mod Frame
+pub mod Framed
+pub mod Judging
+pub mod Length
+pub mod Spelling
+pub mod Steps
