@@ -1,0 +1,116 @@
+// The events of a command, one after the other.
+ghost use Rattle.std.specs.Prelude.{◌≡◌, ◌<◌, length, IfOk, IfSome};
+ghost use Rattle.std.specs.Option.{option_map};
+ghost use Rattle.script_text.specs.Expansion.{passes, flight_sent, only_if, next_event};
+
+use crate::Command;
+use rep_types::{Cluster, Duplicate, Event, Memory, PeerId, RegionId, Reply, ServerId};
+use std::alloc::Global;
+
+const BATCH: u16 = 25;
+
+// Whether the reply is `ok` or `all`.
+fn passes(reply: &Reply) -> bool
+    ensures { result ≡ passes reply.now }
+{
+    !matches!(
+        reply,
+        Reply::Stopped { .. } | Reply::StoreFault { .. } | Reply::Refused(_)
+    )
+}
+
+// Flights count from 1.
+fn flight_sent(reply: &Reply) -> Option<u32>
+    ensures { result ≡ flight_sent reply.now }
+{
+    match reply {
+        Reply::Sent { flight, .. } if 0 < *flight => Some(*flight),
+        _ => None,
+    }
+}
+
+fn open_event(
+    cluster: Cluster,
+    region: RegionId,
+    server: ServerId,
+    replies: &[Reply],
+) -> Option<Event>
+    ensures event { result ≡ next_event (Command.Open cluster region server) replies.now }
+    ensures few { IfSome result (λ _. length replies.now < 3) }
+{
+    match replies {
+        [] => Some(Event::OpenBegin {
+            cluster,
+            region,
+            server,
+        }),
+        [begun] if passes(begun) => Some(Event::OpenEnd { cluster, region }),
+        _ => None,
+    }
+}
+
+fn ship_event(
+    cluster: Cluster,
+    peer: PeerId,
+    server: ServerId,
+    replies: &[Reply],
+) -> Option<Event>
+    ensures event { result ≡ next_event (Command.Ship cluster peer server) replies.now }
+    ensures few { IfSome result (λ _. length replies.now < 3) }
+{
+    match replies {
+        [] => Some(Event::Send {
+            cluster,
+            peer,
+            server,
+            most: BATCH,
+        }),
+        [sent] => deliver_event(sent),
+        [sent, arrived] => confirm_event(sent, arrived),
+        _ => None,
+    }
+}
+
+fn deliver_event(sent: &Reply) -> Option<Event>
+    ensures { result ≡ option_map Event.Deliver (flight_sent sent.now) }
+{
+    match flight_sent(sent) {
+        Some(flight) => Some(Event::Deliver { flight }),
+        None => None,
+    }
+}
+
+fn confirm_event(sent: &Reply, arrived: &Reply) -> Option<Event>
+    ensures { result ≡ only_if (passes arrived.now) (option_map Event.Confirm (flight_sent sent.now)) }
+{
+    if !passes(arrived) {
+        return None;
+    }
+    match flight_sent(sent) {
+        Some(flight) => Some(Event::Confirm { flight }),
+        None => None,
+    }
+}
+
+impl Command {
+    /// The command's next event, after the replies to its earlier ones. A command goes on after `ok` and `all` alone.
+    pub fn next_event(&self, alloc: Global, replies: &[Reply]) -> Result<Option<Event>, Memory>
+        ensures event { IfOk result (λ made. made ≡ next_event self.now replies.now) }
+        ensures few { IfOk result (λ made. IfSome made (λ _. length replies.now < 3)) }
+    {
+        Ok(match self {
+            Command::Single(event) if replies.is_empty() => Some(event.copy(alloc)?),
+            Command::Single(_) => None,
+            Command::Open {
+                cluster,
+                region,
+                server,
+            } => open_event(*cluster, *region, *server, replies),
+            Command::Ship {
+                cluster,
+                peer,
+                server,
+            } => ship_event(*cluster, *peer, *server, replies),
+        })
+    }
+}
