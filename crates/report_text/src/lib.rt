@@ -8,8 +8,8 @@ mod lines;
 mod lists;
 mod refusal;
 mod reply;
-
-
+#[cfg(test)]
+mod tests;
 mod words;
 
 pub use lines::{print_lines, print_record, views};

@@ -16,13 +16,20 @@ fn write_wrongstate(out: &mut Vec<u8>, have: SyncState, phase: &Phase) -> io::Re
 fn write_needroll(out: &mut Vec<u8>, server: &ServerId, used: u32, need: u32) -> io::Result<()>
     ensures { OnOk result (out.new.items ≡ out.old.items ++ needroll_text server.now used need) }
 {
-    write!(out, "needroll server={server} used={used} need={need} limit=65536")
+    write!(
+        out,
+        "needroll server={server} used={used} need={need} limit=65536"
+    )
 }
 
 pub fn write_storefault(out: &mut Vec<u8>, store: Cluster, call: Call, count: u64) -> io::Result<()>
     ensures { OnOk result (out.new.items ≡ out.old.items ++ storefault_text store call count) }
 {
-    write!(out, "storefault store={store} call={} count={count}", call_word(call))
+    write!(
+        out,
+        "storefault store={store} call={} count={count}",
+        call_word(call)
+    )
 }
 
 pub fn write_cause(out: &mut Vec<u8>, cause: &Cause) -> io::Result<()>
