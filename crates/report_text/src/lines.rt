@@ -1,5 +1,5 @@
 ghost use Rattle.std.specs.Prelude.{◌≡◌, ◌++◌, IsOk, OnOk, flat_map};
-ghost use Rattle.report_text.specs.Lines.{lines, lines_from, record_text, shown_text};
+ghost use Rattle.report_text.specs.Lines.{lines, record_text, shown_text};
 ghost use Rattle.report_text.specs.Values.{view_text};
 
 use crate::cell::write_views;
