@@ -1,0 +1,15 @@
+//! The texts of records: each event as a script has it, and its reply. The words are this
+//! project's own.
+#![tactic(auto)]
+
+mod cell;
+mod event;
+mod lines;
+mod lists;
+mod refusal;
+mod reply;
+#[cfg(test)]
+mod tests;
+mod words;
+
+pub use lines::{print_lines, print_record, views};

@@ -1,0 +1,129 @@
+use super::*;
+use rep_types::{
+    Bytes, Call, Cause, CellView, Cluster, Event, Items, Key, Name, Phase, Record, Refusal,
+    RegionId, Reply, ServerId, SyncState, Tickets, Views,
+};
+use std::alloc::Global;
+use std::test::Fail;
+
+fn record(event: Event, reply: Reply) -> Record {
+    Record {
+        event,
+        reply,
+        faults_a: 0,
+        faults_b: 0,
+        actor: 0,
+    }
+}
+
+fn tickets(alloc: Global, numbers: &[u32]) -> Result<Tickets, Fail> {
+    Ok(Tickets::from_slice(alloc, numbers)?)
+}
+
+// One cell in row `r.1` with a value of so many characters `v`.
+fn shown(alloc: Global, length: usize) -> Result<Views, Fail> {
+    let value = vec![in alloc; b'v'; length]?;
+    let mut cells = Items::new(alloc);
+    cells.push(CellView {
+        row: Key::new(alloc, "r.1")?,
+        family: Name::new(alloc, "f")?,
+        qualifier: Name::new(alloc, "q")?,
+        stamp: 10,
+        value: Bytes::from_vec(value),
+    })?;
+    Ok(cells)
+}
+
+#[test]
+fn replies_are_printed(rt: HostRuntime) -> Result<(), Fail> {
+    let alloc = rt.alloc();
+    let region = RegionId::new(4096).ok_or("no region")?;
+    let server = ServerId::new(64).ok_or("no server")?;
+    let cases = [
+        (
+            Reply::Accepted {
+                region,
+                seq: 2,
+                ticket: 1,
+            },
+            "3 deliver 7 -> ok region=4096 seq=2 ticket=1\n",
+        ),
+        (
+            Reply::Changed {
+                acks: tickets(alloc, &[])?,
+                doubtful: tickets(alloc, &[2, 10])?,
+            },
+            "3 deliver 7 -> ok acks=- doubtful=2,10\n",
+        ),
+        (
+            Reply::Stopped {
+                index: 1,
+                acks: tickets(alloc, &[5])?,
+                cause: Cause::WrongState {
+                    have: SyncState::Standby,
+                    phase: Phase::Replaying { left: 2 },
+                },
+            },
+            "3 deliver 7 -> stopped index=1 acks=5 wrongstate have=standby phase=replaying:2\n",
+        ),
+        (
+            Reply::StoreFault {
+                store: Cluster::B,
+                call: Call::Rename,
+                count: 12,
+            },
+            "3 deliver 7 -> storefault store=b call=rename count=12\n",
+        ),
+        (
+            Reply::Refused(Refusal::NeedRoll {
+                server,
+                used: 65_000,
+                need: 600,
+            }),
+            "3 deliver 7 -> needroll server=64 used=65000 need=600 limit=65536\n",
+        ),
+        (
+            Reply::Refused(Refusal::Stale { now: None }),
+            "3 deliver 7 -> stale now=none\n",
+        ),
+    ];
+    for (reply, text) in cases {
+        let mut out = Vec::new(alloc);
+        print_record(3, &record(Event::Deliver { flight: 7 }, reply), &mut out)?;
+        assert_eq!(rt; out.as_slice(), text.as_bytes());
+    }
+    Ok(())
+}
+
+#[test]
+fn journals_are_printed(rt: HostRuntime) -> Result<(), Fail> {
+    let alloc = rt.alloc();
+    let server = ServerId::new(2).ok_or("no server")?;
+    let cluster = Cluster::A;
+    let made = Event::Server { cluster, server };
+    let table = Name::new(alloc, "t")?;
+    let cells = shown(alloc, 1)?;
+    let journal = [
+        record(made, Reply::Done),
+        record(Event::Show { cluster, table }, Reply::Shown { cells }),
+    ];
+    let mut out = Vec::new(alloc);
+    print_lines(&journal, &mut out)?;
+    let text = "1 server a 2 -> ok\n2 show a t -> ok cells=1\n| r.1 f:q@10=v\n";
+    assert_eq!(rt; out.as_slice(), text.as_bytes());
+    Ok(())
+}
+
+#[test]
+fn long_values_are_counted(rt: HostRuntime) -> Result<(), Fail> {
+    let alloc = rt.alloc();
+    for (length, text) in [
+        (31, "| r.1 f:q@10=vvvvvvvvvvvvvvvvvvvvvvvvvvvvvvv\n"),
+        (32, "| r.1 f:q@10=32*v\n"),
+    ] {
+        let mut out = Vec::new(alloc);
+        views(&shown(alloc, length)?, &mut out)?;
+        assert_eq!(rt; out.as_slice(), text.as_bytes());
+    }
+    Ok(())
+}
