@@ -8,6 +8,8 @@ mod fixed;
 mod lines;
 mod parser;
 mod put;
+#[cfg(test)]
+mod tests;
 
 pub use command::{Command, Commands};
 pub use parser::{ParseError, parse};

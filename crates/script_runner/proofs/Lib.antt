@@ -1,0 +1,4 @@
+pub mod Performing
+pub mod Runs
+pub mod Serving
+pub mod Steps

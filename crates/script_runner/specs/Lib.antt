@@ -1,0 +1,4 @@
+pub mod Answers
+pub mod Pair
+pub mod Ran
+pub mod Served

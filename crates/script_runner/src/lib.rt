@@ -1,0 +1,8 @@
+//! Runs a script over two clusters and writes what happened. The rules are this project's own.
+#![tactic(auto)]
+
+mod pair;
+mod perform;
+mod runner;
+
+pub use runner::run;

@@ -1,0 +1,54 @@
+ghost use Rattle.std.specs.Prelude.{◌≡◌, ◌+◌, ◌-◌, ◌*◌, ◌^◌, ◌<◌, ◌≤◌, ◌++◌, true, false, List, length, IfOk, IfErr, OnOk};
+ghost use Rattle.std.specs.List.{list_all};
+ghost use Rattle.rep_types.specs.declared.record.Record.{Record};
+ghost use Rattle.script_text.specs.Expansion.{Performs, Expands};
+ghost use Rattle.script_runner.specs.Served.{is_served};
+
+use crate::pair::{Pair, StepError};
+use rep_types::{Items, Memory};
+use script_text::Command;
+use std::alloc::Global;
+
+impl From<Memory> for StepError {
+    ghost use Rattle.script_runner.specs.declared.pair.StepError.TheVariants as refusal;
+
+    ghost from_gives = { λ _ e. e ≡ refusal.Memory };
+
+    fn from(_: Memory) -> StepError {
+        StepError::Memory
+    }
+}
+
+// All the events of one command, each once.
+fn perform(alloc: Global, pair: &mut Pair, command: &Command) -> Result<(), StepError>
+    requires served { is_served command.now ≡ true }
+    requires usable { pair.old.spent ≡ false }
+    requires room { length pair.old.journal + 3 < 2 ^ 32 - 1 }
+    ensures performs { OnOk result ((own : List Record)
+        × (pair.new.journal ≡ pair.old.journal ++ own) × Performs command.now own) }
+    ensures usable { OnOk result (pair.new.spent ≡ false) }
+    ensures few { OnOk result (length pair.new.journal ≤ length pair.old.journal + 3) }
+    ensures err { IfErr result (λ e. e ≡ StepError.Memory) }
+{
+    let mut replies = Items::new(alloc);
+    while let Some(event) = command.next_event(alloc, replies.as_slice())? {
+        let reply = pair.step(alloc, event, 0)?;
+        replies.push(reply)?;
+    }
+    Ok(())
+}
+
+/// A whole script.
+pub fn perform_all(alloc: Global, commands: &[Command]) -> Result<Pair, Memory>
+    requires served { list_all is_served commands.now ≡ true }
+    requires room { 3 * length commands.now < 2 ^ 32 - 1 }
+    ensures { IfOk result (λ pair. Expands commands.now pair.journal) }
+{
+    let mut pair = Pair::new(alloc);
+    for command in commands {
+        if perform(alloc, &mut pair, command).is_err() {
+            return Err(Memory);
+        }
+    }
+    Ok(pair)
+}

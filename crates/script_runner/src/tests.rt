@@ -1,0 +1,113 @@
+ghost use Rattle.std.specs.Prelude.{◌≤◌};
+
+use super::*;
+use rep_io::{MemSink, MemSource};
+use rep_types::{Bytes, Items, Status, Text, Words};
+use std::alloc::Global;
+use std::test::Fail;
+
+const OPENING: &[u8] =
+    b"server a 1\nserver b 1\ntable a t f/1\ntable b t f/1\nopen a 1 1\nopen b 1 1\npeer a 1 plain t\n";
+
+const OPENED: &[u8] = b"1 server a 1 -> ok\n2 server b 1 -> ok\n3 table a t f/1 -> ok region=1\n\
+4 table b t f/1 -> ok region=1\n5 openbegin a 1 1 -> ok barrier=1\n6 openend a 1 -> ok seq=1 acks=-\n\
+7 openbegin b 1 1 -> ok barrier=1\n8 openend b 1 -> ok seq=1 acks=-\n9 peer a 1 plain t -> ok\n";
+
+const SHIPPED: &[u8] = b"10 put a t r1 f:q@10=v -> ok region=1 seq=2 ticket=1\n\
+11 sync a 1 -> ok commits=1 acks=1\n12 send a 1 1 25 -> ok flight=1 entries=1 forms=1\n\
+13 deliver 1 -> all arrived=1 acks=-\n14 confirm 1 -> ok recorded=1\n\
+15 show a t -> ok cells=1\n| r1 f:q@10=v\n16 show b t -> ok cells=1\n| r1 f:q@10=v\n";
+
+fn join(alloc: Global, front: &[u8], back: &[u8]) -> Result<Bytes, Fail> {
+    let mut bytes = Items::from_slice(alloc, front)?;
+    bytes.extend_from_slice(back)?;
+    Ok(bytes)
+}
+
+// Ports for one run: pieces of at most so many bytes, and the call of each that fails, if any.
+struct Ports {
+    most: usize,
+    read: u64,
+    write: u64,
+}
+
+// What the run of a script answers and writes.
+fn run_of(alloc: Global, script: Bytes, ports: &Ports) -> Result<(Status, Bytes), Fail>
+    requires { 1 ≤ ports.now.most }
+{
+    let mut words = Items::new(alloc);
+    words.push(Text::new(alloc, "run")?)?;
+    let reads = Words::from_slice(alloc, [ports.read].as_slice())?;
+    let writes = Words::from_slice(alloc, [ports.write].as_slice())?;
+    let mut input = MemSource::new(script, reads, ports.most);
+    let mut out = MemSink::new(alloc, 4096, writes, ports.most)?;
+    let status = run(alloc, &words, &mut input, &mut out);
+    Ok((status, Items::from_slice(alloc, out.bytes())?))
+}
+
+#[test]
+fn scripts_print_their_lines(rt: HostRuntime) -> Result<(), Fail> {
+    let alloc = rt.alloc();
+    for most in [1usize, 10, 4096] {
+        let ports = Ports {
+            most,
+            read: 0,
+            write: 0,
+        };
+        let lines = b"put a t r1 f:q@10=v\nsync a 1\nship a 1 1\nshow a t\nshow b t\n";
+        let (status, text) = run_of(alloc, join(alloc, OPENING, lines)?, &ports)?;
+        assert_eq!(rt; status, Status::Ok);
+        assert_eq!(rt; text.as_slice(), join(alloc, OPENED, SHIPPED)?.as_slice());
+        let (status, text) = run_of(alloc, join(alloc, OPENING, b"ship a 1 1")?, &ports)?;
+        assert_eq!(rt; status, Status::Ok);
+        let empty = join(alloc, OPENED, b"10 send a 1 1 25 -> empty\n")?;
+        assert_eq!(rt; text.as_slice(), empty.as_slice());
+        let (status, text) = run_of(alloc, Items::new(alloc), &ports)?;
+        assert_eq!(rt; status, Status::Ok);
+        assert_eq!(rt; text.len(), 0);
+    }
+    Ok(())
+}
+
+#[test]
+fn other_inputs_leave_nothing_written(rt: HostRuntime) -> Result<(), Fail> {
+    let alloc = rt.alloc();
+    let ports = Ports {
+        most: 4096,
+        read: 0,
+        write: 0,
+    };
+    let script = join(alloc, OPENING, b"put a t r1 f:q@10")?;
+    let (status, text) = run_of(alloc, script, &ports)?;
+    assert_eq!(rt; status, Status::Syntax { line: 8, rule: 2 });
+    assert_eq!(rt; text.len(), 0);
+    let feeds = Items::from_vec(vec![in alloc; b'\n'; 1_048_576]?);
+    let (status, _) = run_of(alloc, feeds, &ports)?;
+    assert_eq!(rt; status, Status::Syntax { line: 1, rule: 2 });
+    let feeds = Items::from_vec(vec![in alloc; b'\n'; 1_048_577]?);
+    let (status, _) = run_of(alloc, feeds, &ports)?;
+    assert_eq!(rt; status, Status::TooLong);
+    Ok(())
+}
+
+#[test]
+fn faults_of_the_ports_are_told(rt: HostRuntime) -> Result<(), Fail> {
+    let alloc = rt.alloc();
+    let ports = Ports {
+        most: 10,
+        read: 2,
+        write: 0,
+    };
+    let (status, text) = run_of(alloc, join(alloc, OPENING, b"")?, &ports)?;
+    assert_eq!(rt; status, Status::ReadFault);
+    assert_eq!(rt; text.len(), 0);
+    let ports = Ports {
+        most: 10,
+        read: 0,
+        write: 2,
+    };
+    let (status, text) = run_of(alloc, join(alloc, OPENING, b"")?, &ports)?;
+    assert_eq!(rt; status, Status::WriteFault);
+    assert_eq!(rt; text.as_slice(), b"1 server a".as_slice());
+    Ok(())
+}
