@@ -30,7 +30,7 @@ unfolding faults_of
 faults-new = refl
 
 pub legal-push : (rs : List Record) (r : Record) → IsLegal rs → IsNext (state_of rs) (faults_of rs) r → IsLegal (rs ++ r ∷ [])
-unfolding IsLegal, state_of, faults_of
+unfolding IsLegal state_of faults_of
 legal-push rs r legal next = legal_from-push opening no_faults rs r legal next
 
 pub state-push : (rs : List Record) (r : Record) → state_of (rs ++ r ∷ []) ≡ after (state_of rs) r

@@ -4,5 +4,7 @@
 mod pair;
 mod perform;
 mod runner;
+#[cfg(test)]
+mod tests;
 
 pub use runner::run;

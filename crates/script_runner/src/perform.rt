@@ -46,9 +46,9 @@ pub fn perform_all(alloc: Global, commands: &[Command]) -> Result<Pair, Memory>
 {
     let mut pair = Pair::new(alloc);
     for command in commands {
-        if perform(alloc, &mut pair, command).is_err() {
+        let Ok(()) = perform(alloc, &mut pair, command) else {
             return Err(Memory);
-        }
+        };
     }
     Ok(pair)
 }

@@ -1,8 +1,8 @@
-ghost use Rattle.std.specs.Prelude.{◌≤◌};
+ghost use Rattle.std.specs.Prelude.{◌≡◌, ◌≤◌};
 
 use super::*;
 use rep_io::{MemSink, MemSource};
-use rep_types::{Bytes, Items, Status, Text, Words};
+use rep_types::{Argv, Bytes, Items, Status, Text, Words};
 use std::alloc::Global;
 use std::test::Fail;
 
@@ -24,90 +24,110 @@ fn join(alloc: Global, front: &[u8], back: &[u8]) -> Result<Bytes, Fail> {
     Ok(bytes)
 }
 
-// Ports for one run: pieces of at most so many bytes, and the call of each that fails, if any.
+// Ports for one run: pieces of at most so many bytes, and the numbers of the calls that fail.
+#[derive(Clone, Copy)]
 struct Ports {
     most: usize,
     read: u64,
     write: u64,
 }
 
-// What the run of a script answers and writes.
-fn run_of(alloc: Global, script: Bytes, ports: &Ports) -> Result<(Status, Bytes), Fail>
-    requires { 1 ≤ ports.now.most }
+fn sound(most: usize) -> Ports
+    ensures { result.most ≡ most }
 {
+    Ports {
+        most,
+        read: 0,
+        write: 0,
+    }
+}
+
+fn words(alloc: Global) -> Result<Argv, Fail> {
     let mut words = Items::new(alloc);
     words.push(Text::new(alloc, "run")?)?;
+    Ok(words)
+}
+
+// Whether the run of a script answers so and writes these bytes.
+fn runs(
+    alloc: Global,
+    script: Bytes,
+    ports: Ports,
+    answer: Status,
+    text: &[u8],
+) -> Result<bool, Fail>
+    requires { 1 ≤ ports.most }
+{
+    let words = words(alloc)?;
     let reads = Words::from_slice(alloc, [ports.read].as_slice())?;
     let writes = Words::from_slice(alloc, [ports.write].as_slice())?;
     let mut input = MemSource::new(script, reads, ports.most);
     let mut out = MemSink::new(alloc, 4096, writes, ports.most)?;
     let status = run(alloc, &words, &mut input, &mut out);
-    Ok((status, Items::from_slice(alloc, out.bytes())?))
+    Ok(status == answer && out.bytes() == text)
+}
+
+const LATER: &[u8] = b"put a t r1 f:q@10=v\nsync a 1\nship a 1 1\nshow a t\nshow b t\n";
+
+fn shipped(alloc: Global, most: usize) -> Result<bool, Fail>
+    requires { 1 ≤ most }
+{
+    let script = join(alloc, OPENING, LATER)?;
+    let lines = join(alloc, OPENED, SHIPPED)?;
+    runs(alloc, script, sound(most), Status::Ok, lines.as_slice())
+}
+
+fn shipped_nothing(alloc: Global, most: usize) -> Result<bool, Fail>
+    requires { 1 ≤ most }
+{
+    let script = join(alloc, OPENING, b"ship a 1 1")?;
+    let lines = join(alloc, OPENED, b"10 send a 1 1 25 -> empty\n")?;
+    runs(alloc, script, sound(most), Status::Ok, lines.as_slice())
 }
 
 #[test]
 fn scripts_print_their_lines(rt: HostRuntime) -> Result<(), Fail> {
     let alloc = rt.alloc();
     for most in [1usize, 10, 4096] {
-        let ports = Ports {
-            most,
-            read: 0,
-            write: 0,
-        };
-        let lines = b"put a t r1 f:q@10=v\nsync a 1\nship a 1 1\nshow a t\nshow b t\n";
-        let (status, text) = run_of(alloc, join(alloc, OPENING, lines)?, &ports)?;
-        assert_eq!(rt; status, Status::Ok);
-        assert_eq!(rt; text.as_slice(), join(alloc, OPENED, SHIPPED)?.as_slice());
-        let (status, text) = run_of(alloc, join(alloc, OPENING, b"ship a 1 1")?, &ports)?;
-        assert_eq!(rt; status, Status::Ok);
-        let empty = join(alloc, OPENED, b"10 send a 1 1 25 -> empty\n")?;
-        assert_eq!(rt; text.as_slice(), empty.as_slice());
-        let (status, text) = run_of(alloc, Items::new(alloc), &ports)?;
-        assert_eq!(rt; status, Status::Ok);
-        assert_eq!(rt; text.len(), 0);
+        assert!(rt; shipped(alloc, most)?);
+        assert!(rt; shipped_nothing(alloc, most)?);
+        assert!(rt; runs(alloc, Items::new(alloc), sound(most), Status::Ok, b"")?);
     }
     Ok(())
+}
+
+fn feeds(alloc: Global, many: usize, answer: Status) -> Result<bool, Fail> {
+    let script = Items::from_vec(vec![in alloc; b'\n'; many]?);
+    runs(alloc, script, sound(4096), answer, b"")
 }
 
 #[test]
 fn other_inputs_leave_nothing_written(rt: HostRuntime) -> Result<(), Fail> {
     let alloc = rt.alloc();
-    let ports = Ports {
-        most: 4096,
-        read: 0,
-        write: 0,
-    };
     let script = join(alloc, OPENING, b"put a t r1 f:q@10")?;
-    let (status, text) = run_of(alloc, script, &ports)?;
-    assert_eq!(rt; status, Status::Syntax { line: 8, rule: 2 });
-    assert_eq!(rt; text.len(), 0);
-    let feeds = Items::from_vec(vec![in alloc; b'\n'; 1_048_576]?);
-    let (status, _) = run_of(alloc, feeds, &ports)?;
-    assert_eq!(rt; status, Status::Syntax { line: 1, rule: 2 });
-    let feeds = Items::from_vec(vec![in alloc; b'\n'; 1_048_577]?);
-    let (status, _) = run_of(alloc, feeds, &ports)?;
-    assert_eq!(rt; status, Status::TooLong);
+    let answer = Status::Syntax { line: 8, rule: 2 };
+    assert!(rt; runs(alloc, script, sound(4096), answer, b"")?);
+    assert!(rt; feeds(alloc, 1_048_576, Status::Syntax { line: 1, rule: 2 })?);
+    assert!(rt; feeds(alloc, 1_048_577, Status::TooLong)?);
     Ok(())
 }
 
 #[test]
 fn faults_of_the_ports_are_told(rt: HostRuntime) -> Result<(), Fail> {
     let alloc = rt.alloc();
-    let ports = Ports {
+    let second_read = Ports {
         most: 10,
         read: 2,
         write: 0,
     };
-    let (status, text) = run_of(alloc, join(alloc, OPENING, b"")?, &ports)?;
-    assert_eq!(rt; status, Status::ReadFault);
-    assert_eq!(rt; text.len(), 0);
-    let ports = Ports {
+    let script = join(alloc, OPENING, LATER)?;
+    assert!(rt; runs(alloc, script, second_read, Status::ReadFault, b"")?);
+    let second_write = Ports {
         most: 10,
         read: 0,
         write: 2,
     };
-    let (status, text) = run_of(alloc, join(alloc, OPENING, b"")?, &ports)?;
-    assert_eq!(rt; status, Status::WriteFault);
-    assert_eq!(rt; text.as_slice(), b"1 server a".as_slice());
+    let script = join(alloc, OPENING, LATER)?;
+    assert!(rt; runs(alloc, script, second_write, Status::WriteFault, b"1 server a")?);
     Ok(())
 }

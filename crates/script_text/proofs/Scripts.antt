@@ -1,11 +1,12 @@
 -- Scripts, line by line.
-use Rattle.std.proofs.Common.{◌≡◌, ◌⊎◌, inl, inr, ℕ, ◌+◌, ◌<◌, ◌≤◌, Bool, true, false, cond, List, [], ◌∷◌, ◌++◌, length, refl, sym, ap, ◌∙◌, subst, arith, append_assoc, length-append}
+use Rattle.std.proofs.Common.{◌≡◌, ◌⊎◌, inl, inr, ℕ, ◌+◌, ◌<◌, ◌≤◌, ◌==◌, Bool, true, false, cond, List, [], ◌∷◌, ◌++◌, length, refl, sym, ap, ◌∙◌, subst, arith, append_assoc, length-append}
 use mir.Val.{bool_byte}
 use Rattle.std.specs.Prelude.{count_by}
 use Rattle.std.proofs.lemmas.List.{append-nil}
 use Rattle.std.proofs.lemmas.List.Sums.{sum_by-append}
 use Rattle.script_text.specs.declared.command.Command.{Command}
 use Rattle.script_text.specs.Commands.{command_text}
+use Rattle.script_text.specs.Lines.{add_byte, lines_of}
 use Rattle.script_text.specs.Grammar.{IsPlaced, is_put_line, IsLine, AreLines, IsScript, IsFault}
 
 AreLines-push : (before lines : List (List ℕ)) (commands : List Command) (line : List ℕ) (c : Command) → AreLines before lines commands → IsLine (before ++ lines) line c → AreLines before (lines ++ line ∷ []) (commands ++ c ∷ [])
@@ -97,3 +98,65 @@ SoFar-none lines line rest commands puts so_far none =
 pub SoFar-end : (lines rest : List (List ℕ)) (commands : List Command) (puts : ℕ) → SoFar lines rest commands puts → rest ≡ [] → IsScript lines commands
 SoFar-end lines rest commands puts so_far e =
     subst (λ ls. IsScript ls commands) (sym (so_far.parts ∙ ap (λ rs. so_far.before ++ rs) e ∙ append-nil so_far.before)) so_far.good
+
+-- a text has no more lines than bytes, and a script as many commands as lines
+add-few : (b n : ℕ) (lines : List (List ℕ)) → length lines ≤ n → length (add_byte b lines) ≤ n + 1
+add-few b n [] h = omega arith
+add-few b n (line ∷ lines) h = omega (arith, h)
+
+lines-few : (text : List ℕ) → length (lines_of text) ≤ length text
+lines-few [] = omega arith
+lines-few (b ∷ rest) =
+    (elim (b == 10) as (λ (t : Bool). length (cond t ([] ∷ lines_of rest) (add_byte b (lines_of rest))) ≤ length (b ∷ rest)) [
+      | true ↦ omega (arith, lines-few rest)
+      | false ↦ omega (arith, add-few b (length rest) (lines_of rest) (lines-few rest))
+    ])
+
+as-many : (before lines : List (List ℕ)) (commands : List Command) → AreLines before lines commands → length commands ≡ length lines
+as-many before [] [] h = refl
+as-many before [] (c ∷ commands) h = absurd h
+as-many before (line ∷ lines) [] h = absurd h
+as-many before (line ∷ lines) (c ∷ commands) h = omega (arith, as-many (before ++ line ∷ []) lines commands h.1)
+
+pub commands-few : (text : List ℕ) (commands : List Command) → IsScript (lines_of text) commands → length commands ≤ length text
+commands-few text commands s = omega (arith, as-many [] (lines_of text) commands s, lines-few text)
+
+abbrev head_or : List ℕ → List (List ℕ) → List ℕ
+head_or d [] = d
+head_or d (x ∷ xs) = x
+
+abbrev tail : List (List ℕ) → List (List ℕ)
+tail [] = []
+tail (x ∷ xs) = xs
+
+-- of two places in a list the one is the other, or comes before it
+data Places (xs : List (List ℕ)) (x : List ℕ) (ys : List (List ℕ)) (y : List ℕ) : Type 0 where
+  same : xs ≡ ys → Places xs x ys y
+  before : (more : List (List ℕ)) → ys ≡ xs ++ x ∷ more → Places xs x ys y
+  behind : (more : List (List ℕ)) → xs ≡ ys ++ y ∷ more → Places xs x ys y
+
+places-more : (z : List ℕ) (xs : List (List ℕ)) (x : List ℕ) (ys : List (List ℕ)) (y : List ℕ) → Places xs x ys y → Places (z ∷ xs) x (z ∷ ys) y
+places-more z xs x ys y (same e) = same (ap (λ zs. z ∷ zs) e)
+places-more z xs x ys y (before more e) = before more (ap (λ zs. z ∷ zs) e)
+places-more z xs x ys y (behind more e) = behind more (ap (λ zs. z ∷ zs) e)
+
+places : (xs : List (List ℕ)) (x : List ℕ) (xs' ys : List (List ℕ)) (y : List ℕ) (ys' : List (List ℕ)) → xs ++ x ∷ xs' ≡ ys ++ y ∷ ys' → Places xs x ys y
+places [] x xs' [] y ys' e = same refl
+places [] x xs' (b ∷ ys) y ys' e = before ys (ap (λ z. z ∷ ys) (sym (ap (head_or []) e)))
+places (a ∷ xs) x xs' [] y ys' e = behind xs (ap (λ z. z ∷ xs) (ap (head_or []) e))
+places (a ∷ xs) x xs' (b ∷ ys) y ys' e =
+    subst (λ z. Places (a ∷ xs) x (z ∷ ys) y) (ap (head_or []) e) (places-more a xs x ys y (places xs x xs' ys y ys' (ap tail e)))
+
+not-before : (lines : List (List ℕ)) (f g : ℕ) (first : IsFault lines f) (second : IsFault lines g) (more : List (List ℕ)) → ¬ (second.before ≡ first.before ++ first.line ∷ more)
+not-before lines f g first second more e =
+    let found = line-at [] first.before first.line more second.commands (subst (λ ls. AreLines [] ls second.commands) e second.good) in
+    first.bad found.0 found.1
+
+-- a text has one first line outside the grammar
+pub faults-same : (lines : List (List ℕ)) (f g : ℕ) → IsFault lines f → IsFault lines g → f ≡ g
+faults-same lines f g first second = by (places first.before first.line first.after second.before second.line second.after (sym first.parts ∙ second.parts))
+  where
+    by : Places first.before first.line second.before second.line → f ≡ g
+    by (same e) = first.place ∙ ap (λ ls. length ls + 1) e ∙ sym second.place
+    by (before more e) = absurd (not-before lines f g first second more e)
+    by (behind more e) = absurd (not-before lines g f second first more e)
