@@ -1,7 +1,8 @@
-ghost use Rattle.std.specs.Prelude.{◌≡◌};
+ghost use Rattle.std.specs.Prelude.{◌≡◌, IfOk};
 ghost use Rattle.wal_reader.specs.Reader.{end_of};
 
 use super::*;
+use std::alloc::Global;
 use std::test::Fail;
 
 /// Region 1 is opened with sequence id 1, row `r1` is written with 2, and the region is closed
@@ -69,27 +70,29 @@ fn a_log_cut_at_each_byte(rt: HostRuntime) -> Result<(), Fail> {
     Ok(())
 }
 
-// the log with another byte at a place
-fn changed(place: usize, byte: u8) -> Result<[u8; 120], Fail> {
+// fed with the log from offset 1,000 on, with another byte at a place
+fn fed_changed(alloc: Global, place: usize, byte: u8) -> Result<LogReader, Fail>
+    ensures { IfOk result (λ reader. end_of reader ≡ 1120) }
+{
     let mut log = LOG;
     let Some(changed) = log.get_mut(place) else {
         return Err("no such place".into());
     };
     *changed = byte;
-    Ok(log)
+    let mut reader = LogReader::new(alloc, 3, 1000);
+    reader.feed(&log)?;
+    Ok(reader)
 }
 
 #[test]
 fn bad_frames_are_told_until_the_next_log(rt: HostRuntime) -> Result<(), Fail> {
     // The second frame's length, and its kind.
     for (place, byte, at, rule) in [(35, 0x39, 1032, 1), (36, 4, 1036, 2)] {
-        let log = changed(place, byte)?;
         let told = Some((3, at, rule));
-        let mut reader = LogReader::new(rt.alloc(), 3, 1000);
-        reader.feed(&log[..60])?;
+        let mut reader = fed_changed(rt.alloc(), place, byte)?;
         assert_eq!(rt; seq(&mut reader)?, Some(1));
         assert_eq!(rt; bad(&mut reader)?, told, "{byte} at {place}");
-        reader.feed(&log[60..])?;
+        reader.feed(&LOG)?;
         assert_eq!(rt; bad(&mut reader)?, told, "again {byte} at {place}");
         assert_eq!(rt; reader.position().offset, 1032);
         assert!(rt; reader.position().log < 9);
