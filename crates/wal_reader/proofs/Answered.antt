@@ -1,5 +1,5 @@
 -- What follows from a reader's answer.
-use Rattle.std.proofs.Common.{◌≡◌, ℕ, ◌+◌, List, ◌++◌, length, drop, ap, subst, ◌∙◌, arith, refl}
+use Rattle.std.proofs.Common.{◌≡◌, ℕ, List, ◌++◌, ap, subst, ◌∙◌, arith}
 use Rattle.std.specs.Prelude.{Option, Some, None, IfSome, Result, Ok, Err}
 use Rattle.std.proofs.lemmas.List.{length-drop}
 use Rattle.rep_types.specs.declared.entry.Entry.{Entry}
@@ -12,7 +12,7 @@ use Rattle.wal_entry.specs.Spelling.{spelling}
 use Rattle.wal_entry.proofs.Pieces.{broken_is_broken}
 use Rattle.wal_entry.proofs.Verdicts.{verdict_again}
 use Rattle.wal_reader.specs.Reader.{Reader, past, end_of}
-use Rattle.wal_reader.specs.Reading.{answer, after, UnlessMemory, IfEntry, Gives}
+use Rattle.wal_reader.specs.Reading.{answer, after, UnlessMemory, IfEntry}
 use Rattle.wal_reader.specs.declared.error.ReaderError.{ReaderError}
 use Rattle.wal_reader.specs.declared.error.ReaderError.TheVariants.{BadFrame, Memory}
 use Rattle.wal_reader.specs.declared.reader.Fault.{Fault}

@@ -1,5 +1,5 @@
 -- What a reader answers, and what it then leaves.
-use Rattle.std.specs.Prelude.{ℕ, ◌≡◌, ◌+◌, true, Result, Ok, Err}
+use Rattle.std.specs.Prelude.{◌≡◌, ◌+◌, true, Result, Ok, Err}
 use Rattle.rep_types.specs.declared.entry.Entry.{Entry}
 use Rattle.rep_types.specs.declared.state.Place.{Place}
 use Rattle.wal_entry.specs.Decoded.{BeginsWithFrame}

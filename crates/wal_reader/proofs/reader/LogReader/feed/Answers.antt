@@ -1,4 +1,4 @@
-use Rattle.std.proofs.Common.{◌+◌, ◌^◌, ◌<◌, length, ap, sym, subst, arith}
+use Rattle.std.proofs.Common.{◌+◌, ◌^◌, ◌<◌, length, sym, subst, arith}
 use Rattle.std.proofs.lemmas.List.{length-append}
 use Rattle.wal_reader.specs.Reader.{Reader, end_of}
 use Rattle.wal_reader.proofs.Answered.{still_bad}

@@ -1,4 +1,4 @@
-use Rattle.std.proofs.Common.{◌≡◌, ◌≤◌, length, ap, arith}
+use Rattle.std.proofs.Common.{length, ap, arith}
 use Rattle.std.proofs.lemmas.List.{length-drop}
 use Rattle.wal_reader.proofs.Within.{broken_within, frame_within}
 use Rattle.wal_reader.proofs.reader.LogReader.read.Goals as goal
