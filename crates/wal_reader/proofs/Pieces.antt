@@ -97,9 +97,6 @@ all_given old new calls entries rest h all ends short =
     let later = so_far old new calls entries rest h all ends in
     no_more (given calls) entries later.0 new.left rest later.1 later.2 short
 
-nothing_is_cut : verdict [] ≡ Cut
+pub nothing_is_cut : verdict [] ≡ Cut
 unfolding verdict frame_length standing
 nothing_is_cut = refl
-
-pub nothing_ends : EndsFrames []
-nothing_ends = rw nothing_is_cut tt

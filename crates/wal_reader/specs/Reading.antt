@@ -41,6 +41,13 @@ IfEntry (Ok (next.Entry entry)) fact = fact entry
 IfEntry (Ok next.Short) fact = Unit {0}
 IfEntry (Err e) fact = Unit {0}
 
+-- a fact where the bytes are told to be short or bad
+abbrev pub IfEnded : Result Next ReaderError → Type 0 → Type 0
+IfEnded (Ok (next.Entry entry)) fact = Unit {0}
+IfEnded (Ok next.Short) fact = fact
+IfEnded (Err (BadFrame log at rule)) fact = fact
+IfEnded (Err Memory) fact = Unit {0}
+
 abbrev pub IsBadFrame : Result Next ReaderError → Type 0
 IsBadFrame (Ok got) = ⊥
 IsBadFrame (Err (BadFrame log at rule)) = Unit {0}

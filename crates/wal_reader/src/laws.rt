@@ -1,6 +1,8 @@
 ghost use Rattle.std.specs.Prelude.{◌≡◌, ◌+◌, [], ◌++◌, ℕ, List, length};
 ghost use Rattle.std.specs.List.{flat_map};
 ghost use Rattle.rep_types.specs.declared.entry.Entry.{Entry};
+ghost use Rattle.wal_entry.specs.Frame.{verdict};
+ghost use Rattle.wal_entry.specs.Judging.{Cut};
 ghost use Rattle.wal_entry.specs.Spelling.{spelling};
 ghost use Rattle.wal_reader.specs.Calls.{Call, Calls, pieces, given, AreFrames, EndsFrames};
 ghost use Rattle.wal_reader.specs.Reader.{Reader, fed};
@@ -23,6 +25,6 @@ pub fn any_cutting()
     ensures all { (old new : Reader) (calls : List Call) (entries : List Entry) (rest : List ℕ) → Calls old calls new
         → AreFrames (old.left ++ pieces calls) entries rest → EndsFrames rest → EndsFrames new.left
         → (given calls ≡ entries) × (new.left ≡ rest) }
-    // A log that ends with a frame has no rest.
-    ensures none { EndsFrames [] }
+    // Where nothing is left, it is short.
+    ensures none { verdict [] ≡ Cut }
 {}

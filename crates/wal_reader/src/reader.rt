@@ -5,8 +5,9 @@ ghost use Rattle.wal_entry.specs.Frame.{verdict};
 ghost use Rattle.wal_entry.specs.Framed.{HasFrame};
 ghost use Rattle.wal_entry.specs.Length.{frame_length_of};
 ghost use Rattle.wal_entry.specs.Spelling.{spelling};
+ghost use Rattle.wal_reader.specs.Calls.{EndsFrames};
 ghost use Rattle.wal_reader.specs.Reader.{starting, fed, end_of};
-ghost use Rattle.wal_reader.specs.Reading.{answer, after, UnlessMemory, IfEntry, IsBadFrame, Gives};
+ghost use Rattle.wal_reader.specs.Reading.{answer, after, UnlessMemory, IfEntry, IfEnded, IsBadFrame, Gives};
 ghost use Rattle.wal_reader.specs.declared.reader.Next.TheVariants as next;
 
 use crate::ReaderError;
@@ -125,6 +126,8 @@ impl LogReader {
         // What is spelled so is given, whatever follows.
         ensures again { (entry : Entry) (rest : List ℕ) → HasFrame entry
             → self.old.left ≡ spelling entry ++ rest → UnlessMemory result (Ok (next.Entry entry)) }
+        // What is told to be short or bad doesn't begin with a frame.
+        ensures ended { IfEnded result (EndsFrames self.new.left) }
         // What was told to be bad is told again, also where no memory is left.
         ensures told { IsTrue self.old.told → IsBadFrame result }
         ensures end { end_of self.new ≡ end_of self.old }

@@ -1,4 +1,4 @@
-use Rattle.wal_reader.proofs.Pieces.{joined, parts, place_of, so_far, all_given, nothing_ends}
+use Rattle.wal_reader.proofs.Pieces.{joined, parts, place_of, so_far, all_given, nothing_is_cut}
 use Rattle.wal_reader.proofs.laws.any_cutting.Goals as goal
 
 pub returns-clause-joined : goal.returns-clause-joined
@@ -17,4 +17,4 @@ pub returns-clause-all : goal.returns-clause-all
 returns-clause-all c = all_given
 
 pub returns-clause-none : goal.returns-clause-none
-returns-clause-none c = nothing_ends
+returns-clause-none c = nothing_is_cut
