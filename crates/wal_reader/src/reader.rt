@@ -91,7 +91,8 @@ impl LogReader {
     fn read(&mut self) -> Result<Next, ReaderError>
         ensures exact { UnlessMemory result (answer self.old.place (verdict self.old.left)) }
         ensures left { self.new ≡ after result self.old }
-        ensures spelled { IfEntry result (λ entry. BeginsWithFrame self.old.left entry (frame_length_of entry)) }
+        ensures spelled { IfEntry result (λ entry.
+            BeginsWithFrame self.old.left entry (frame_length_of entry)) }
         ensures told { IsTrue self.old.told → IsBadFrame result }
     {
         let place = self.place;
@@ -125,7 +126,8 @@ impl LogReader {
         ensures spelled { IfEntry result (λ entry. Gives self.old entry self.new) }
         // What is spelled so is given, whatever follows.
         ensures again { (entry : Entry) (rest : List ℕ) → HasFrame entry
-            → self.old.left ≡ spelling entry ++ rest → UnlessMemory result (Ok (next.Entry entry)) }
+            → self.old.left ≡ spelling entry ++ rest
+            → UnlessMemory result (Ok (next.Entry entry)) }
         // What is told to be short or bad doesn't begin with a frame.
         ensures ended { IfEnded result (EndsFrames self.new.left) }
         // What was told to be bad is told again, also where no memory is left.
