@@ -37,6 +37,16 @@ fn bad(alloc: Global, bytes: &[u8]) -> Result<Option<(u32, u8)>, Fail> {
     }
 }
 
+// what is broken in a put whose byte at the place is another
+fn bad_put(alloc: Global, place: usize, byte: u8) -> Result<Option<(u32, u8)>, Fail> {
+    let mut bytes = PUT;
+    let Some(changed) = bytes.get_mut(place) else {
+        return Err("no such place".into());
+    };
+    *changed = byte;
+    bad(alloc, &bytes)
+}
+
 #[test]
 fn frames_both_ways(rt: HostRuntime) -> Result<(), Fail> {
     for (bytes, region, seq, marks, origin) in [
@@ -156,10 +166,8 @@ fn the_first_broken_item(rt: HostRuntime) -> Result<(), Fail> {
         (54, b' ', 54, 10),
         (55, 1, 55, 11),
     ] {
-        let mut bytes = PUT;
-        bytes[place] = byte;
         assert_eq!(rt;
-            bad(rt.alloc(), &bytes)?,
+            bad_put(rt.alloc(), place, byte)?,
             Some((at, rule)),
             "{byte} at {place}"
         );
