@@ -1,19 +1,16 @@
 -- How the fixed lines are spelled, and which commands may stand where.
-use Rattle.std.proofs.Common.{◌≡◌, ◌⊎◌, inl, inr, ℕ, ◌+◌, ◌<◌, ◌≤◌, zero, suc, Bool, true, false, List, [], ◌∷◌, ◌++◌, length, get_or, Option, Some, None, refl, sym, ap, ◌∙◌, arith}
+use Rattle.std.proofs.Common.{◌≡◌, inl, inr, ℕ, ◌<◌, ◌≤◌, zero, suc, true, false, List, [], ◌∷◌, ◌++◌, get_or, Option, Some, None, refl, sym, ap, ◌∙◌, arith}
 use Rattle.std.specs.Prelude.{codes, slice_get, IsNone, IfOk, Result, Ok, Err}
 use Rattle.rep_types.specs.declared.memory.Memory.{Memory}
 use Rattle.std.specs.Str.{bytes_eq}
 use Rattle.std.proofs.lemmas.Fmt.{decimal_digit}
 use Rattle.std.proofs.lemmas.Slice.Eq.{bytes_eq-Decides}
-use Rattle.rep_types.specs.declared.ids.Cluster.{Cluster}
-use Rattle.rep_types.specs.Words.{cluster_text}
-use Rattle.rep_types.specs.declared.ids.Cluster.TheVariants.{A, B}
+use Rattle.rep_types.specs.declared.ids.Cluster.TheVariants.{A}
 use Rattle.rep_types.specs.declared.event.Event.TheVariants as event
-use Rattle.rep_types.specs.declared.state.Kind.TheVariants as kind
 use Rattle.script_text.specs.declared.command.Command.{Command}
 use Rattle.script_text.specs.declared.command.Command.TheVariants as command
 use Rattle.script_text.specs.Commands.{command_text}
-use Rattle.script_text.specs.Grammar.{t, opening, IsPut, IsLater, IsPlaced}
+use Rattle.script_text.specs.Grammar.{opening, IsPut, IsLater, IsPlaced}
 use Rattle.script_text.specs.Openings.{opening_texts}
 
 abbrev text_in : Option Command → List ℕ

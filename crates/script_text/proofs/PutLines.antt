@@ -1,8 +1,8 @@
 -- A put's line has its parts once.
-use Rattle.std.proofs.Common.{◌≡◌, ℕ, List, [], ◌∷◌, ◌++◌, refl, sym, ap, ◌∙◌, subst}
+use Rattle.std.proofs.Common.{◌≡◌, ℕ, List, [], ◌∷◌, ◌++◌, sym, ap, ◌∙◌, subst}
 use Rattle.script_text.specs.Cut.{Lacks}
 use Rattle.std.specs.Prelude.{codes}
-use Rattle.script_text.specs.Puts.{put_text, IsPutLine}
+use Rattle.script_text.specs.Puts.{IsPutLine}
 use Rattle.script_text.proofs.Cuts.{cut-same, cut-none}
 
 abbrev tail : List ℕ → List ℕ

@@ -1,14 +1,13 @@
 -- How the commands of the grammar are spelled.
-use Rattle.std.proofs.Common.{◌≡◌, ℕ, ◌+◌, ◌<◌, ◌≤◌, ◌&&◌, cond, Bool, true, false, List, [], ◌∷◌, ◌++◌, length, refl, sym, ap, ◌∙◌, arith, ◌==◌}
+use Rattle.std.proofs.Common.{◌≡◌, ℕ, ◌≤◌, ◌&&◌, cond, Bool, true, false, List, [], ◌∷◌, ◌++◌, length, refl, ap, ◌∙◌, arith, ◌==◌}
 use Rattle.std.specs.List.{list_all}
-use Rattle.std.specs.Prelude.{codes, flat_map, nat_le, Some, None}
+use Rattle.std.specs.Prelude.{codes, nat_le, Some, None}
 use Rattle.std.specs.Fmt.{decimal}
 use Rattle.std.proofs.lemmas.List.{append-nil}
 use Rattle.std.proofs.lemmas.Bool.{and_parts, leb-true}
-use Rattle.std.proofs.lemmas.Bool.Decides.{nat_tests}
-use Rattle.rep_types.specs.declared.ids.Cluster.TheVariants.{A, B}
+use Rattle.rep_types.specs.declared.ids.Cluster.TheVariants.{A}
 use Rattle.rep_types.specs.declared.event.Event.TheVariants as event
-use Rattle.report_text.specs.Values.{value_text, repeated, cell_text, spelled}
+use Rattle.report_text.specs.Values.{value_text, repeated, spelled}
 use Rattle.script_text.specs.declared.command.Command.TheVariants as command
 use Rattle.script_text.specs.Commands.{command_text}
 use Rattle.script_text.specs.Grammar.{t, cell, is_short, is_value_byte, IsPut}

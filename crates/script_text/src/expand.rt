@@ -49,12 +49,7 @@ fn open_event(
     }
 }
 
-fn ship_event(
-    cluster: Cluster,
-    peer: PeerId,
-    server: ServerId,
-    replies: &[Reply],
-) -> Option<Event>
+fn ship_event(cluster: Cluster, peer: PeerId, server: ServerId, replies: &[Reply]) -> Option<Event>
     ensures event { result ≡ next_event (Command.Ship cluster peer server) replies.now }
     ensures few { IfSome result (λ _. length replies.now < 3) }
 {

@@ -10,9 +10,7 @@ ghost use Rattle.script_text.specs.Puts.{IsPutLine};
 use crate::Command;
 use crate::cut::{cut, rest_after};
 use crate::fixed::name_of;
-use rep_types::{
-    Bytes, Cell, CellKind, Cells, Cluster, Event, Items, Key, Memory, TextError,
-};
+use rep_types::{Bytes, Cell, CellKind, Cells, Cluster, Event, Items, Key, Memory, TextError};
 use std::alloc::Global;
 use std::io::Write;
 use std::str::from_utf8;

@@ -36,13 +36,22 @@ fn the_first_line_outside_the_grammar_is_told(rt: HostRuntime) -> Result<(), Fai
     assert_eq!(rt; fault_of(alloc, b"server a 1\n\n"), 2);
     assert_eq!(rt; fault_of(alloc, b"server b 1\n"), 1);
     assert_eq!(rt; fault_of(alloc, b"server a 1\r\n"), 1);
-    assert_eq!(rt; later_fault_of(alloc, b"sync a 1\nship a 1 1\nshow a t\nshow b t\n")?, 0);
+    assert_eq!(rt;
+        later_fault_of(alloc, b"sync a 1\nship a 1 1\nshow a t\nshow b t\n")?,
+        0
+    );
     assert_eq!(rt; later_fault_of(alloc, b"sync a 1\nship a 1 2\n")?, 9);
-    assert_eq!(rt; later_fault_of(alloc, b"put a t r.1 f:q@18446744073709551615=Z_.")?, 0);
+    assert_eq!(rt;
+        later_fault_of(alloc, b"put a t r.1 f:q@18446744073709551615=Z_.")?,
+        0
+    );
     assert_eq!(rt; later_fault_of(alloc, b"put a t r1 f:q@0=")?, 0);
     assert_eq!(rt; later_fault_of(alloc, b"put a t r1 f:q@10")?, 8);
     assert_eq!(rt; later_fault_of(alloc, b"put a t r1 f:q@01=v")?, 8);
-    assert_eq!(rt; later_fault_of(alloc, b"put a t r1 f:q@18446744073709551616=v")?, 8);
+    assert_eq!(rt;
+        later_fault_of(alloc, b"put a t r1 f:q@18446744073709551616=v")?,
+        8
+    );
     assert_eq!(rt; later_fault_of(alloc, b"put a t r1 f:q@1=v-")?, 8);
     assert_eq!(rt; later_fault_of(alloc, b"put a t R f:q@1=v")?, 8);
     assert_eq!(rt; later_fault_of(alloc, b"# put")?, 8);

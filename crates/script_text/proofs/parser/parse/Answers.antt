@@ -1,4 +1,4 @@
-use Rattle.std.proofs.Common.{◌∷◌, length, refl, subst, arith, length-append, ◌≤◌, List, ℕ, ◌≡◌, ◌+◌, ◌++◌, []}
+use Rattle.std.proofs.Common.{refl, subst, arith, length-append, ◌≤◌, List, ℕ, ◌≡◌, ◌+◌}
 use Rattle.script_text.specs.declared.command.Command.{Command}
 use Rattle.script_text.specs.Commands.{command_text}
 use Rattle.script_text.specs.Grammar.{IsPlaced, is_put_line}

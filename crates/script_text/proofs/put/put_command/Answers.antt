@@ -1,5 +1,4 @@
 use Rattle.std.proofs.Common.{refl, ap, ◌∙◌}
-use Rattle.std.specs.Fmt.{decimal}
 use Rattle.rep_types.specs.Text.{key_refusal}
 use Rattle.script_text.specs.Grammar.{is_short}
 use Rattle.script_text.proofs.PutLines.{same-parts}
