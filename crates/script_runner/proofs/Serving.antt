@@ -1,12 +1,12 @@
 -- The commands of scripts are served, and so are their events.
-use Rattle.std.proofs.Common.{◌≡◌, inl, inr, ℕ, ◌<◌, ◌≤◌, ◌&&◌, zero, suc, Bool, true, false, cond, List, [], ◌∷◌, ◌++◌, length, Option, Some, None, refl, sym, ap, ◌∙◌, subst, arith}
+use Rattle.std.proofs.Common.{◌≡◌, inl, inr, ℕ, ◌&&◌, zero, suc, Bool, true, false, cond, List, [], ◌∷◌, ◌++◌, length, Option, Some, None, refl, sym, ap, ◌∙◌, subst, arith}
 use Rattle.std.specs.Prelude.{slice_get, nat_lt, nat_le}
 use Rattle.std.specs.List.{list_all}
 use Rattle.std.specs.Option.{option_map}
-use Rattle.std.proofs.lemmas.Bool.{and_parts, leb-true}
+use Rattle.std.proofs.lemmas.Bool.{and_parts}
 use Rattle.std.proofs.lemmas.Bool.Decides.{nat_tests}
 use Rattle.rep_types.specs.declared.ids.Cluster.{Cluster}
-use Rattle.rep_types.specs.declared.ids.Cluster.TheVariants.{A, B}
+use Rattle.rep_types.specs.declared.ids.Cluster.TheVariants.{A}
 use Rattle.rep_types.specs.declared.event.Event.{Event}
 use Rattle.rep_types.specs.declared.event.Event.TheVariants as event
 use Rattle.rep_types.specs.declared.reply.Reply.{Reply}
@@ -16,7 +16,7 @@ use Rattle.rep_model.specs.Words.{is_paired, is_worded}
 use Rattle.script_text.specs.declared.command.Command.{Command}
 use Rattle.script_text.specs.declared.command.Command.TheVariants as command
 use Rattle.script_text.specs.Expansion.{passes, flight_sent, only_if, next_event}
-use Rattle.script_text.specs.Grammar.{opening, t, cell, is_value_byte, is_short, IsPut, IsLater, IsPlaced, IsLine, AreLines, IsScript}
+use Rattle.script_text.specs.Grammar.{opening, t, cell, is_value_byte, is_short, IsLater, IsPlaced, AreLines, IsScript}
 use Rattle.script_runner.specs.Served.{is_served}
 
 -- an event that the machine takes

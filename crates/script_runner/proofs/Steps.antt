@@ -1,5 +1,5 @@
 -- A pair goes on by one step.
-use Rattle.std.proofs.Common.{◌≡◌, ℕ, ◌+◌, ◌≤◌, Bool, true, false, List, [], ◌∷◌, ◌++◌, length, refl, sym, ap, ◌∙◌, subst, arith, length-append}
+use Rattle.std.proofs.Common.{◌≡◌, ℕ, ◌+◌, ◌≤◌, true, false, List, [], ◌∷◌, ◌++◌, refl, sym, ap, ◌∙◌, subst, arith, length-append}
 use Rattle.rep_types.specs.declared.event.Event.{Event}
 use Rattle.rep_types.specs.declared.reply.Reply.{Reply}
 use Rattle.rep_types.specs.declared.record.Record.{Record}
@@ -7,7 +7,7 @@ use Rattle.rep_model.specs.declared.machine.Machine.{Machine}
 use Rattle.rep_model.specs.Built.{size}
 use Rattle.rep_model.specs.Row.{Row, answers}
 use Rattle.rep_model.specs.Rows.{row}
-use Rattle.rep_model.specs.Runs.{Counts, no_faults, Tells, after, state_of, faults_of}
+use Rattle.rep_model.specs.Runs.{Counts, no_faults, Tells, after, state_of}
 use Rattle.rep_model.specs.Words.{is_worded}
 use Rattle.script_runner.specs.Pair.{IsPair}
 use Rattle.script_runner.proofs.Runs.{legal-push, state-push, faults-push}

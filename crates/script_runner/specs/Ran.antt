@@ -1,5 +1,5 @@
 -- What a run did.
-use Rattle.std.specs.Prelude.{◌≡◌, ℕ, List, Option, IfSome}
+use Rattle.std.specs.Prelude.{ℕ, List, Option, IfSome}
 use Rattle.rep_types.specs.declared.record.Record.{Record}
 use Rattle.rep_model.specs.Runs.{IsLegal}
 use Rattle.rep_io.specs.Io.{Appends, AppendsPart}

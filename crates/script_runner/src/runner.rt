@@ -73,12 +73,7 @@ fn run_text<K: Sink>(alloc: Global, text: &[u8], out: &mut K) -> Status
 /// reply, and the cells that are shown. It asks for at most 1,048,577 bytes, and each of its reads and writes but
 /// the last moves at least one. The order of answers is BadWords, then ReadFault or TooLong, whichever is met first
 /// while reading, then Syntax, then what the performance gives.
-pub fn run<S: Source, K: Sink>(
-    alloc: Global,
-    words: &Argv,
-    input: &mut S,
-    out: &mut K,
-) -> Status
+pub fn run<S: Source, K: Sink>(alloc: Global, words: &Argv, input: &mut S, out: &mut K) -> Status
     // What it did.
     ensures ok { result ≡ Status.Ok → Ran (S.left input.old) (K.held out.old) (K.held out.new) }
     ensures part { result ≡ Status.WriteFault → RanInPart (S.left input.old) (K.held out.old) (K.held out.new) }

@@ -128,6 +128,14 @@ fn faults_of_the_ports_are_told(rt: HostRuntime) -> Result<(), Fail> {
         write: 2,
     };
     let script = join(alloc, OPENING, LATER)?;
-    assert!(rt; runs(alloc, script, second_write, Status::WriteFault, b"1 server a")?);
+    assert!(rt;
+        runs(
+            alloc,
+            script,
+            second_write,
+            Status::WriteFault,
+            b"1 server a"
+        )?
+    );
     Ok(())
 }

@@ -1,4 +1,4 @@
-use Rattle.std.proofs.Common.{arith, length-append}
+use Rattle.std.proofs.Common.{arith}
 use Rattle.std.proofs.lemmas.List.{take_more}
 use Rattle.script_runner.proofs.Performing.{Expands-push}
 use Rattle.script_runner.proofs.perform.perform_all.Goals as goal
