@@ -1,0 +1,8 @@
+use Rattle.region_meta.proofs.Following.{follow-spliced, only-one, seat, begins_first, follow-joined, member}
+use Rattle.region_meta.proofs.map.RegionMap.region.Goals as goal
+
+pub returns-clause-found : goal.returns-clause-found
+returns-clause-found c = ?
+
+pub returns-clause-number : goal.returns-clause-number
+returns-clause-number c = ?
