@@ -1,3 +1,6 @@
 pub mod Following
 pub mod Keys
 pub mod Lists
+pub mod Located
+pub mod Lookups
+pub mod Shapes
