@@ -3,6 +3,7 @@ use Rattle.std.proofs.Common.{◌≡◌, ℕ, ◌+◌, ◌<◌, ◌≤◌, ◌�
 use Rattle.std.specs.List.{position_or_len}
 use Rattle.std.specs.Option.{option_map}
 use Rattle.std.specs.Prelude.{nat_lt, is_some, IsSome}
+use Rattle.region_meta.specs.Changes.{replace}
 use Rattle.std.proofs.lemmas.Bool.{both_ways, false≢true, true≢false, cases_lt}
 use Rattle.std.proofs.lemmas.Bool.Decides.{nat_tests}
 use Rattle.std.proofs.lemmas.Option.{none-some, same_Some, slice_get_within, slice_get_past}
@@ -50,6 +51,19 @@ find-only p (y ∷ ys) (suc i) x e passes only =
     (elim (p y) as (λ (t : Bool). p y ≡ t → cond t (Some y) (find p ys) ≡ Some x) [
       | true ↦ λ t. let bad : 0 ≡ suc i = only 0 y refl t in absurd (omega arith)
       | false ↦ λ t. find-only p ys i x e passes (λ n z at q. let up : suc n ≡ suc i = only (suc n) z at q in omega arith)
+    ]) refl
+
+-- and gives way as the first
+pub replace-only : {X : Type 0} (p : X → Bool) (y : X) (xs : List X) (i : ℕ) (x : X) → slice_get xs i ≡ Some x → p x ≡ true
+    → ((n : ℕ) (z : X) → slice_get xs n ≡ Some z → p z ≡ true → n ≡ i) → replace p y xs ≡ set xs i y
+replace-only p y [] i x e passes only = absurd (none-some x e)
+replace-only p y (z ∷ zs) zero x e passes only =
+    let same : z ≡ x = same_Some z x e in
+    ap (λ t. cond t (y ∷ zs) (z ∷ replace p y zs)) (ap p same ∙ passes)
+replace-only p y (z ∷ zs) (suc i) x e passes only =
+    (elim (p z) as (λ (t : Bool). p z ≡ t → cond t (y ∷ zs) (z ∷ replace p y zs) ≡ z ∷ set zs i y) [
+      | true ↦ λ t. let bad : 0 ≡ suc i = only 0 z refl t in absurd (omega arith)
+      | false ↦ λ t. ap (λ es. z ∷ es) (replace-only p y zs i x e passes (λ n w at q. let up : suc n ≡ suc i = only (suc n) w at q in omega arith))
     ]) refl
 
 pub find-none : {X : Type 0} (p : X → Bool) (xs : List X) → ((n : ℕ) (y : X) → slice_get xs n ≡ Some y → p y ≡ true → ⊥) → find p xs ≡ None

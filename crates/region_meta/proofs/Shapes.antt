@@ -1,13 +1,13 @@
 -- Regions and their shapes, by their places and by their numbers.
-use Rattle.std.proofs.Common.{◌≡◌, ℕ, ◌+◌, ◌-◌, ◌<◌, ◌≤◌, Bool, true, false, List, [], ◌∷◌, ◌++◌, length, Option, Some, None, refl, ap, sym, ◌∙◌, subst, slice_get, set, arith, find, map}
-use Rattle.std.specs.Option.{option_map}
+use Rattle.std.proofs.Common.{◌≡◌, ℕ, ◌+◌, ◌-◌, ◌<◌, ◌≤◌, Bool, true, false, List, [], ◌∷◌, ◌++◌, length, Option, Some, None, refl, ap, sym, ◌∙◌, subst, slice_get, set, arith, find, map, Bor}
+use Rattle.std.specs.Option.{option_map, option_copied, IfSome}
 use Rattle.std.proofs.lemmas.Bool.{eqb-true, eq-eqb}
 use Rattle.std.proofs.lemmas.Option.{none-some, same_Some, slice_get-map}
 use Rattle.region_meta.specs.declared.region.Region.{Region}
 use Rattle.region_meta.specs.Regions.{is_region}
 use Rattle.region_meta.specs.Changes.{replace}
 use Rattle.region_meta.specs.Orders.{Shape, shape, spliced}
-use Rattle.region_meta.proofs.Lookups.{find-only, find-none}
+use Rattle.region_meta.proofs.Lookups.{find-only, find-none, replace-only}
 
 pub shape-at : (rs : List Region) (n : ℕ) (r : Region) → slice_get rs n ≡ Some r → slice_get (map shape rs) n ≡ Some (shape r)
 shape-at rs n r e = slice_get-map shape rs n ∙ ap (option_map shape) e
@@ -50,4 +50,14 @@ region-at rs numbered n least = by (slice_get rs (n - 1)) refl
 
 -- what a region gives way to, by its place
 pub replace-at : (rs : List Region) → Numbered rs → (n : ℕ) → (r y : Region) → 1 ≤ n → slice_get rs (n - 1) ≡ Some r → replace (is_region n) y rs ≡ set rs (n - 1) y
-replace-at rs numbered n r y least e = ?
+replace-at rs numbered n r y least e =
+    let own : r.number ≡ (n - 1) + 1 = numbered (n - 1) r e in
+    replace-only (is_region n) y rs (n - 1) r e (eq-eqb r.number n (omega arith)) (λ k z at is.
+      let other : z.number ≡ k + 1 = numbered k z at in
+      let same : z.number ≡ n = eqb-true z.number n is in
+      omega arith)
+
+-- a fact of what is lent, where something is
+pub copied : {X : Type 0} (o : Option (Bor X)) (P : X → Type 0) → ((x : X) → option_copied o ≡ Some x → P x) → IfSome o (λ r. P r.now)
+copied None P h = tt
+copied (Some r) P h = h r.now refl

@@ -89,7 +89,8 @@ pub record IsLastAt (regions : List Region) (row : List ℕ) (places : List ℕ)
   pub begins : (k ≡ 0) ⊎ (begins_by regions row (slice_index places k) ≡ true)
   pub next : k + 1 < length places → begins_by regions row (slice_index places (k + 1)) ≡ false
 
-pub record IsLastFrom (regions : List Region) (row : List ℕ) (places : List ℕ) (place : ℕ) : Type 0 where
+-- the number of the region at the place that is last so
+pub record IsHolder (regions : List Region) (row : List ℕ) (places : List ℕ) (number : Option ℕ) : Type 0 where
   pub k : ℕ
   pub last : IsLastAt regions row places k
-  pub place_is : place ≡ slice_index places k
+  pub number_is : number ≡ option_map (λ r. r.number) (slice_get regions (slice_index places k))

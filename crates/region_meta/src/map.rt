@@ -1,4 +1,4 @@
-ghost use Rattle.std.specs.Prelude.{◌≡◌, ℕ, ◌+◌, ◌<◌, ◌↔◌, [], ◌∷◌, ◌++◌, true, None, Some, Ok, Err, IsOk, IsTrue, if◌then◌else◌, IsNone, IsSome, IfSome, IfOk, OnOk, OnErr, IsOkUnless, find, length};
+ghost use Rattle.std.specs.Prelude.{◌≡◌, ℕ, ◌+◌, ◌<◌, ◌↔◌, [], ◌∷◌, ◌++◌, true, None, Some, Ok, Err, IsOk, IsTrue, if◌then◌else◌, IsNone, IsSome, IfSome, IfOk, OnOk, OnErr, IsOkUnless, find, position, is_some, length};
 ghost use Rattle.std.specs.Option.{option_copied, option_map};
 ghost use Rattle.region_meta.specs.Regions.{Map, table_of, region_of, is_named, serves, if_some};
 ghost use Rattle.region_meta.specs.Refusals.{table_refusal, too_many};
@@ -55,6 +55,14 @@ impl RegionMap {
         self.names.get(table.as_str())
     }
 
+    /// The table's place among the names.
+    pub(crate) fn table_at(&self, table: &Name) -> Option<usize>
+        ensures at { result ≡ position (is_named table.now) self.now.tables }
+        ensures found { is_some result ≡ is_some (table_of table.now self.now) }
+    {
+        self.names.get_index_of(table.as_str())
+    }
+
     /// The region of a number.
     pub fn region(&self, region: RegionId) -> Option<&Region>
         ensures found { option_copied result ≡ region_of region self.now }
@@ -81,10 +89,14 @@ impl RegionMap {
         ensures none { IsNone result ↔ IsNone (table_of table.now self.now) }
         ensures first { result ≡ option_map (λ r. r.number) (find (serves table.now row.now) self.now.regions) }
     {
-        let at = self.names.get_index_of(table.as_str())?;
-        let order = self.orders.get(at)?;
-        let regions = self.regions.as_slice();
-        Some(regions[order.holder(regions, row)].number)
+        let orders = &self.orders;
+        let Some(at) = self.table_at(table) else {
+            return None;
+        };
+        let Some(order) = orders.get(at) else {
+            return None;
+        };
+        order.holder(&self.regions, row)
     }
 
     /// What `add_table` would answer, apart from memory.
@@ -92,7 +104,7 @@ impl RegionMap {
         ensures refused { IfSome (table_refusal table.now self.now) (λ why. result ≡ Err why) }
         ensures accepted { table_refusal table.now self.now ≡ None → IsOk result }
     {
-        if self.names.get_index_of(table.as_str()).is_some() {
+        if self.table_at(table).is_some() {
             return Err(MetaError::Exists);
         }
         self.room_for(1)

@@ -1,10 +1,10 @@
 // The regions of a table that aren't Gone, in the order of their keys.
 ghost use Rattle.std.specs.Prelude.{◌≡◌, ℕ, ◌+◌, ◌<◌, ◌⊎◌, [], ◌∷◌, true, false, length, position, slice_index, All, IfOk, IfSome, OnOk, OnErr};
-ghost use Rattle.region_meta.specs.Orders.{IsLastAt, IsLastFrom, begins_by, is_place, put_halves, put_other, leave_out};
+ghost use Rattle.region_meta.specs.Orders.{IsLastAt, IsHolder, begins_by, is_place, put_halves, put_other, leave_out};
 
 use crate::Region;
 use crate::bounds::is_from;
-use rep_types::{Items, Key, Memory};
+use rep_types::{Items, Key, Memory, RegionId};
 use std::alloc::Global;
 use std::marker::Model;
 
@@ -102,12 +102,16 @@ impl Order {
         leave_out(&mut self.places, high);
     }
 
-    /// The place, among the regions, of the last that begins at the row or before it.
-    pub fn holder(&self, regions: &[Region], row: &Key) -> usize
+    /// The number of the last region that begins at the row or before it.
+    pub fn holder(&self, regions: &Items<Region>, row: &Key) -> Option<RegionId>
         requires some { 0 < length self.now }
         requires known { All (λ n. n < length regions.now) self.now }
-        ensures { IsLastFrom regions.now row.now self.now result }
+        ensures { IsHolder regions.now row.now self.now result }
     {
-        self.places[last_from(regions, &self.places, row)]
+        let last = last_from(regions.as_slice(), &self.places, row);
+        match regions.get(self.places[last]) {
+            Some(region) => Some(region.number),
+            None => None,
+        }
     }
 }
