@@ -122,7 +122,7 @@ begins_first shapes t a b [] f s some e = absurd (omega arith)
 begins_first shapes t a b (n ∷ ns) f s some e = subst (λ (x : Shape). Some x.low ≡ a) (same_Some f.0 s (sym f.1 ∙ e)) f.2.begins
 
 -- another list of regions that has the same ones at these places
-follow-same : (shapes others : List Shape) (t : List ℕ) (a b : Cut) (ns : List ℕ) → Follow shapes t a ns b → ((n : ℕ) → IsIn n ns → slice_get others n ≡ slice_get shapes n) → Follow others t a ns b
+pub follow-same : (shapes others : List Shape) (t : List ℕ) (a b : Cut) (ns : List ℕ) → Follow shapes t a ns b → ((n : ℕ) → IsIn n ns → slice_get others n ≡ slice_get shapes n) → Follow others t a ns b
 follow-same shapes others t a b [] f same = f
 follow-same shapes others t a b (n ∷ ns) f same =
     (f.0, same n (inl refl) ∙ f.1, f.2, follow-same shapes others t (end_of f.0) b ns f.3 (λ m i. same m (inr i)))
@@ -207,6 +207,39 @@ early shapes t a b n ns s u k f eu p i es hs hu ss su =
     by (Some h) below after above =
         let l_k : key_below after.0 k ≡ true = subst (λ (o : Option (List ℕ)). begins_below o (Some k) ≡ true) after.1 above in
         both_ways (key_below after.0 h) after.2 (below-below after.0 k h l_k below)
+
+pub member-some : (shapes : List Shape) (t : List ℕ) (a b : Cut) (ns : List ℕ) → Follow shapes t a ns b → (n : ℕ) (s : Shape) → IsIn n ns → slice_get shapes n ≡ Some s → begins_below s.low s.high ≡ true
+member-some shapes t a b [] f n s i e = absurd i
+member-some shapes t a b (m ∷ ns) f n s i e =
+    ⊎_elim
+      (λ here. subst (λ (x : Shape). begins_below x.low x.high ≡ true) (same_Some f.0 s (sym f.1 ∙ ap (slice_get shapes) (sym here) ∙ e)) f.2.some)
+      (λ later. member-some shapes t (end_of f.0) b ns f.3 n s later e) i
+
+in-left : (n : ℕ) (ms ns : List ℕ) → IsIn n ms → IsIn n (ms ++ ns)
+in-left n [] ns i = absurd i
+in-left n (m ∷ ms) ns i = ⊎_elim (λ here. inl here) (λ later. inr (in-left n ms ns later)) i
+
+in-right : (n : ℕ) (ms ns : List ℕ) → IsIn n ns → IsIn n (ms ++ ns)
+in-right n [] ns i = i
+in-right n (m ∷ ms) ns i = inr (in-right n ms ns i)
+
+-- what doesn't give way stays
+pub in-kept : (n p : ℕ) (ys ns : List ℕ) → IsIn n ns → (n ≡ p → ⊥) → IsIn n (spliced (is_place p) ys ns)
+in-kept n p ys [] i apart = absurd i
+in-kept n p ys (m ∷ ns) i apart =
+    (elim (nat_eq m p) as (λ (t : Bool). nat_eq m p ≡ t → IsIn n (cond t (ys ++ ns) (m ∷ spliced (is_place p) ys ns))) [
+      | true ↦ λ t. ⊎_elim (λ here. absurd (apart (here ∙ eqb-true m p t))) (λ later. in-right n ys ns later) i
+      | false ↦ λ t. ⊎_elim (λ here. inl here) (λ later. inr (in-kept n p ys ns later apart)) i
+    ]) refl
+
+-- what comes instead is there
+pub in-new : (n p : ℕ) (ys ns : List ℕ) → IsIn p ns → IsIn n ys → IsIn n (spliced (is_place p) ys ns)
+in-new n p ys [] i j = absurd i
+in-new n p ys (m ∷ ns) i j =
+    (elim (nat_eq m p) as (λ (t : Bool). nat_eq m p ≡ t → IsIn n (cond t (ys ++ ns) (m ∷ spliced (is_place p) ys ns))) [
+      | true ↦ λ t. in-left n ys ns j
+      | false ↦ λ t. inr (in-new n p ys ns (⊎_elim (λ here. absurd (eqb-false m p t (sym here))) (λ later. later) i) j)
+    ]) refl
 
 -- where a region ends at a key, the region that begins there is the next one; another comes instead of both
 pub follow-joined : (shapes others : List Shape) (t : List ℕ) (a b : Cut) (ns : List ℕ) (p q w : ℕ) (s u x : Shape) (k : List ℕ)

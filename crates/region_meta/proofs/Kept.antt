@@ -1,13 +1,14 @@
 -- What keeps the orders: a new table, and regions that come instead of others of one table.
-use Rattle.std.proofs.Common.{◌≡◌, ℕ, ◌+◌, ◌-◌, ◌<◌, ◌≤◌, ◌⊎◌, inl, inr, ⊎_elim, Bool, true, false, cond, List, [], ◌∷◌, ◌++◌, length, Option, Some, None, refl, ap, sym, ◌∙◌, subst, slice_get, set, arith, position, length-append, length-set}
+use Rattle.std.proofs.Common.{◌≡◌, ℕ, ◌+◌, ◌-◌, ◌<◌, ◌≤◌, ◌⊎◌, inl, inr, ⊎_elim, Bool, true, false, cond, List, [], ◌∷◌, ◌++◌, length, Option, Some, None, refl, ap, sym, ◌∙◌, subst, slice_get, set, arith, position, length-append, length-set, zero, suc}
 use Rattle.std.specs.Prelude.{IsSome, is_some}
 use Rattle.std.specs.Str.{bytes_eq}
+use Rattle.std.specs.Option.{option_map}
 use Rattle.std.proofs.lemmas.Bool.{true≢false, false≢true, cases_eq, cases_Bool}
 use Rattle.std.proofs.lemmas.Option.{none-some, same_Some, slice_get_within}
 use Rattle.std.proofs.lemmas.Slice.Eq.{bytes_eq-Decides}
 use Rattle.region_meta.specs.Regions.{Table, is_named}
-use Rattle.region_meta.specs.Orders.{Shape, IsOrder, IsKept, IsIn, Follow, IsTile}
-use Rattle.region_meta.proofs.Following.{follow-same, member}
+use Rattle.region_meta.specs.Orders.{Shape, IsOrder, IsKept, IsIn, Follow, IsTile, end_of, put_halves, put_other, leave_out}
+use Rattle.region_meta.proofs.Following.{follow-same, follow-spliced, follow-joined, member, member-some, in-kept, in-new}
 use Rattle.region_meta.proofs.Lookups.{set-other, set-here, append-left, append-right, append-cases, position-at, position-kept, position-new, Passes}
 
 -- the regions at these places are Gone, and else all is as it was
@@ -110,9 +111,146 @@ retires-two xs p q u v e f apart = record {
     second : Retires (λ n. n ≡ q) ys (set ys q (record v { gone = true }))
     second = retires-one ys q v (set-other xs p q (record u { gone = true }) apart ∙ f)
 
+retires-none : (xs : List Shape) → Retires (λ _. ⊥) xs xs
+retires-none xs = record { same_length = refl; decides = λ n. inr (λ g. g); others = λ n g. refl; ended = λ n s g e. absurd g }
+
+-- what stands in a list of one
+alone : (k : ℕ) (v s : Shape) → slice_get (s ∷ []) k ≡ Some v → (k ≡ 0) × (s ≡ v)
+alone zero v s e = (refl, same_Some s v e)
+alone (suc k) v s e = absurd (none-some v e)
+
 -- a new table with its first region
 pub added-kept : (tables : List Table) (xs : List Shape) (orders : List (List ℕ)) (x : Table) (s : Shape) → IsKept tables xs orders
     → position (is_named x.name) tables ≡ None → length xs + 1 ≤ 4096 → s.number ≡ length xs + 1 → s.generation ≤ length xs
     → IsTile x.name (Some None) s → s.high ≡ None
     → IsKept (tables ++ x ∷ []) (xs ++ s ∷ []) (orders ++ (length xs ∷ []) ∷ [])
-added-kept tables xs orders x s kept absent few numbered young tile high = ?
+added-kept tables xs orders x s kept absent few numbered young tile high = record {
+      few = omega (arith, length-append xs (s ∷ []));
+      numbered = λ n v e. old-or-new (λ _. ⊥) xs xs (s ∷ []) (retires-none xs) (λ v. v.number ≡ n + 1) n (kept.numbered n) (λ u h. h) (λ k w e at. new.numbered k w at ∙ ap (λ m. m + 1) (sym e)) v e;
+      young = λ n v e. old-or-new (λ _. ⊥) xs xs (s ∷ []) (retires-none xs) (λ v. v.generation ≤ n) n (kept.young n) (λ u h. h) (λ k w e at. subst (λ m. w.generation ≤ m) (sym e) (new.young k w at)) v e;
+      known = λ n v e. old-or-new (λ _. ⊥) xs xs (s ∷ []) (retires-none xs) (λ v. IsSome (position (is_named v.table) (tables ++ x ∷ []))) n
+        (λ u at. still u.table (kept.known n u at)) (λ u h. h) (λ k w e at. subst (λ (z : List ℕ). IsSome (position (is_named z) (tables ++ x ∷ []))) (sym (new.table_is k w at)) itself) v e;
+      paired = let h : length orders ≡ length tables = kept.paired in omega (arith, length-append orders ((length xs ∷ []) ∷ []), length-append tables (x ∷ []));
+      ordered = λ u i ms place e. by u i ms place e (position (is_named u) tables) refl
+    }
+  where
+    new : AreNew (length xs) x.name (s ∷ [])
+    new = record {
+      few = few;
+      numbered = λ k v e. let l = alone k v s e in subst (λ (w : Shape). w.number ≡ (length xs + k) + 1) l.1 (let n : s.number ≡ length xs + 1 = numbered in let z : k ≡ 0 = l.0 in omega arith);
+      young = λ k v e. let l = alone k v s e in subst (λ (w : Shape). w.generation ≤ length xs + k) l.1 (let n : s.generation ≤ length xs = young in omega arith);
+      table_is = λ k v e. let l = alone k v s e in subst (λ (w : Shape). w.table ≡ x.name) l.1 tile.table_is
+    }
+    itself : IsSome (position (is_named x.name) (tables ++ x ∷ []))
+    itself = ap is_some (position-new (is_named x.name) tables x absent ∙ ap (λ b. cond b (Some (length tables)) None) ((bytes_eq-Decides x.name x.name).1 refl))
+    still : (z : List ℕ) → IsSome (position (is_named z) tables) → IsSome (position (is_named z) (tables ++ x ∷ []))
+    still z h =
+        (elim (position (is_named z) tables) as (λ (o : Option ℕ). position (is_named z) tables ≡ o → IsSome o → IsSome (position (is_named z) (tables ++ x ∷ []))) [
+          | None ↦ λ e h. absurd (false≢true h)
+          | Some i ↦ λ e h. ap is_some (position-kept (is_named z) tables x i e)
+        ]) refl h
+    first : IsOrder (xs ++ s ∷ []) x.name (length xs ∷ [])
+    first = record {
+      follow = (s, append-right xs (s ∷ []) (length xs) 0 (omega arith), tile, ap (option_map Some) high);
+      whole = λ n v e table alive. ⊎_elim
+        (λ old. absurd (true≢false (sym (kept.known n v old.1) ∙ ap is_some (ap (λ z. position (is_named z) tables) table ∙ absent))))
+        (λ fresh. let l = alone fresh.0 v s fresh.2 in let z : fresh.0 ≡ 0 = l.0 in let at : n ≡ length xs + fresh.0 = fresh.1 in inl (omega arith)) (append-cases xs (s ∷ []) n v e)
+    }
+    by : (u : List ℕ) (i : ℕ) (ms : List ℕ) → position (is_named u) (tables ++ x ∷ []) ≡ Some i → slice_get (orders ++ (length xs ∷ []) ∷ []) i ≡ Some ms
+        → (o : Option ℕ) → position (is_named u) tables ≡ o → IsOrder (xs ++ s ∷ []) u ms
+    by u i ms place e (Some j) was =
+        let same : j ≡ i = same_Some j i (sym (position-kept (is_named u) tables x j was) ∙ place) in
+        let p : Passes (is_named u) tables j = position-at (is_named u) tables j was in
+        let within : j < length orders = subst (λ m. j < m) (sym kept.paired) (slice_get_within tables j p.0 p.1) in
+        other-order (λ _. ⊥) xs xs (s ∷ []) x.name u ms (retires-none xs) new (λ n v g at. absurd g)
+          (λ name. none-some j (sym absent ∙ (ap (λ z. position (is_named z) tables) (sym name) ∙ was)))
+          (kept.ordered u j ms was (sym (append-left orders ((length xs ∷ []) ∷ []) j within) ∙ (ap (slice_get (orders ++ (length xs ∷ []) ∷ [])) same ∙ e)))
+    by u i ms place e None was =
+        (elim (is_named u x) as (λ (b : Bool). is_named u x ≡ b → cond b (Some (length tables)) None ≡ Some i → IsOrder (xs ++ s ∷ []) u ms) [
+          | true ↦ λ b g.
+              let name : x.name ≡ u = (bytes_eq-Decides x.name u).0 b in
+              let here : length tables ≡ i = same_Some (length tables) i g in
+              let paired : length orders ≡ length tables = kept.paired in
+              let places : (length xs ∷ []) ≡ ms = same_Some (length xs ∷ []) ms (sym (append-right orders ((length xs ∷ []) ∷ []) i 0 (omega arith)) ∙ e) in
+              subst (λ z. IsOrder (xs ++ s ∷ []) z ms) name (subst (λ z. IsOrder (xs ++ s ∷ []) x.name z) places first)
+          | false ↦ λ b g. absurd (none-some i g)
+        ]) refl (sym (position-new (is_named u) tables x was) ∙ place)
+
+-- the halves of a region come instead of it
+pub split-order : (xs : List Shape) (t : List ℕ) (ns : List ℕ) (p : ℕ) (u l h : Shape) (key : List ℕ) → IsOrder xs t ns → slice_get xs p ≡ Some u → u.table ≡ t → u.gone ≡ false
+    → IsTile t (Some u.low) l → l.high ≡ Some key → IsTile t (Some (Some key)) h → h.high ≡ u.high
+    → IsOrder (set xs p (record u { gone = true }) ++ l ∷ h ∷ []) t (put_halves p (length xs) ns)
+split-order xs t ns p u l h key order e table alive tile_l high_l tile_h high_h = record {
+      follow = follow-spliced xs others t (Some None) None ns p u (length xs ∷ (length xs + 1) ∷ []) order.follow e there same middle;
+      whole = λ n s e table alive. ⊎_elim
+        (λ old. ⊎_elim
+          (λ g. let v = r.ended n s g old.1 in absurd (true≢false (sym (ap (λ (x : Shape). x.gone) v.2) ∙ alive)))
+          (λ g. in-kept n p (length xs ∷ (length xs + 1) ∷ []) ns (order.whole n s (sym (r.others n g) ∙ old.1) table alive) g) (r.decides n))
+        (λ fresh. in-new n p (length xs ∷ (length xs + 1) ∷ []) ns there (of-two n fresh.0 s (fresh.1 ∙ ap (λ m. m + fresh.0) r.same_length) fresh.2)) (append-cases zs (l ∷ h ∷ []) n s e)
+    }
+  where
+    zs : List Shape
+    zs = set xs p (record u { gone = true })
+    others : List Shape
+    others = zs ++ l ∷ h ∷ []
+    r : Retires (λ n. n ≡ p) xs zs
+    r = retires-one xs p u e
+    there : IsIn p ns
+    there = order.whole p u e table alive
+    same : (n : ℕ) → IsIn n ns → (n ≡ p → ⊥) → slice_get others n ≡ slice_get xs n
+    same n i apart =
+        let s = member xs t (Some None) None ns order.follow n i in
+        let within : n < length xs = slice_get_within xs n s.0 s.1 in
+        let same_length : length zs ≡ length xs = r.same_length in
+        append-left zs (l ∷ h ∷ []) n (omega arith) ∙ r.others n apart
+    middle : Follow others t (Some u.low) (length xs ∷ (length xs + 1) ∷ []) (end_of u)
+    middle =
+        let same_length : length zs ≡ length xs = r.same_length in
+        (l, append-right zs (l ∷ h ∷ []) (length xs) 0 (omega arith), tile_l,
+         (h, append-right zs (l ∷ h ∷ []) (length xs + 1) 1 (omega arith), subst (λ c. IsTile t c h) (sym (ap (option_map Some) high_l)) tile_h, ap (option_map Some) high_h))
+    of-two : (n k : ℕ) (s : Shape) → n ≡ length xs + k → slice_get (l ∷ h ∷ []) k ≡ Some s → IsIn n (length xs ∷ (length xs + 1) ∷ [])
+    of-two n zero s at e = inl (omega arith)
+    of-two n (suc zero) s at e = inr (inl (omega arith))
+    of-two n (suc (suc k)) s at e = absurd (none-some s e)
+
+-- a region comes instead of two
+pub merge-order : (xs : List Shape) (t : List ℕ) (ns : List ℕ) (p q : ℕ) (u v j : Shape) (key : List ℕ) → IsOrder xs t ns → slice_get xs p ≡ Some u → slice_get xs q ≡ Some v
+    → u.table ≡ t → v.table ≡ t → u.gone ≡ false → v.gone ≡ false → u.high ≡ Some key → v.low ≡ Some key → (q ≡ p → ⊥)
+    → IsTile t (Some u.low) j → j.high ≡ v.high
+    → IsOrder (set (set xs p (record u { gone = true })) q (record v { gone = true }) ++ j ∷ []) t (leave_out q (put_other p (length xs) ns))
+merge-order xs t ns p q u v j key order e f table_u table_v alive_u alive_v high_u low_v apart tile_j high_j = record {
+      follow = follow-joined xs others t (Some None) None ns p q (length xs) u v j key order.follow e f there_p there_q high_u low_v
+        beyond (λ same. apart (sym same))
+        (member-some xs t (Some None) None ns order.follow p u there_p e) (member-some xs t (Some None) None ns order.follow q v there_q f)
+        same (append-right zs (j ∷ []) (length xs) 0 (let same_length : length zs ≡ length xs = r.same_length in omega arith)) tile_j high_j;
+      whole = λ n s e table alive. ⊎_elim
+        (λ old. ⊎_elim
+          (λ g. let w = r.ended n s g old.1 in absurd (true≢false (sym (ap (λ (x : Shape). x.gone) w.2) ∙ alive)))
+          (λ g. in-kept n q [] (put_other p (length xs) ns) (in-kept n p (length xs ∷ []) ns (order.whole n s (sym (r.others n g) ∙ old.1) table alive) (λ a. g (inl a))) (λ a. g (inr a))) (r.decides n))
+        (λ fresh.
+          let k = alone fresh.0 s j fresh.2 in
+          let z : fresh.0 ≡ 0 = k.0 in
+          let at : n ≡ length zs + fresh.0 = fresh.1 in
+          let same_length : length zs ≡ length xs = r.same_length in
+          let is : n ≡ length xs = omega arith in
+          in-kept n q [] (put_other p (length xs) ns) (in-new n p (length xs ∷ []) ns there_p (inl is)) (λ a. beyond (sym is ∙ a))) (append-cases zs (j ∷ []) n s e)
+    }
+  where
+    zs : List Shape
+    zs = set (set xs p (record u { gone = true })) q (record v { gone = true })
+    others : List Shape
+    others = zs ++ j ∷ []
+    r : Retires (λ n. (n ≡ p) ⊎ (n ≡ q)) xs zs
+    r = retires-two xs p q u v e f apart
+    there_p : IsIn p ns
+    there_p = order.whole p u e table_u alive_u
+    there_q : IsIn q ns
+    there_q = order.whole q v f table_v alive_v
+    beyond : length xs ≡ q → ⊥
+    beyond same = let within : q < length xs = slice_get_within xs q v f in omega arith
+    same : (n : ℕ) → IsIn n ns → (n ≡ p → ⊥) → (n ≡ q → ⊥) → slice_get others n ≡ slice_get xs n
+    same n i a b =
+        let s = member xs t (Some None) None ns order.follow n i in
+        let within : n < length xs = slice_get_within xs n s.0 s.1 in
+        let same_length : length zs ≡ length xs = r.same_length in
+        append-left zs (j ∷ []) n (omega arith) ∙ r.others n (λ g. ⊎_elim a b g)

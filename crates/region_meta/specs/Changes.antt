@@ -28,11 +28,11 @@ abbrev pub moved : PlaceOf → Region → Region
 moved p r = record r { place = p }
 
 -- what is Gone stays so, and nothing is made Gone
-abbrev pub moved_alive : PlaceOf → Region → Region
-moved_alive p r = if is_gone r.place || is_gone p then r else moved p r
+abbrev pub next_place : PlaceOf → PlaceOf → PlaceOf
+next_place have next = if is_gone have || is_gone next then have else next
 
 abbrev pub placed : ℕ → PlaceOf → Map → Map
-placed n p m = given (region_of n m) m (λ r. record m { regions = replace (is_region n) (moved_alive p r) m.regions })
+placed n p m = given (region_of n m) m (λ r. record m { regions = replace (is_region n) (moved (next_place r.place p) r) m.regions })
 
 abbrev pub low_half : ℕ → List ℕ → Region → Region
 low_half number key r = record { number = number; table = r.table; low = r.low; high = Some key; parents = r.number ∷ []; generation = r.generation + 1; place = place.Off }

@@ -7,7 +7,7 @@ ghost use Rattle.region_meta.specs.declared.error.MetaError.{MetaError};
 ghost use Rattle.region_meta.specs.declared.error.MetaError.TheVariants as error;
 
 use crate::order::Order;
-use crate::region::{first_region, is_gone};
+use crate::region::{first_region, next_place};
 use crate::{MetaError, Region};
 use indexmap::IndexMap;
 use rep_types::{Families, Items, Key, Memory, Name, PlaceOf, RegionId};
@@ -159,15 +159,12 @@ impl RegionMap {
 
     /// Sets the place of a region that is there. What is Gone stays so, and nothing is made Gone
     /// here: that is left to `split` and `merge`.
-    #[tactic(auto, unfolding(crate::specs::Regions::given))]
     pub fn set_place(&mut self, region: RegionId, place: PlaceOf)
         requires { IsSome (region_of region self.old) }
         ensures { self.new ≡ placed region place self.old }
     {
         let region = self.regions.at_mut(region.number() as usize - 1);
-        if !is_gone(&region.place) && !is_gone(&place) {
-            region.place = place;
-        }
+        region.place = next_place(&region.place, &place);
     }
 }
 

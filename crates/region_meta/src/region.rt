@@ -1,7 +1,7 @@
 // A region, and the regions that splits and merges make.
 ghost use Rattle.std.specs.Prelude.{◌≡◌, ◌<◌, IfOk};
 ghost use Rattle.region_meta.specs.Regions.{is_off, is_gone};
-ghost use Rattle.region_meta.specs.Changes.{first_region, low_half, high_half, joined};
+ghost use Rattle.region_meta.specs.Changes.{first_region, next_place, low_half, high_half, joined};
 
 use rep_types::{Duplicate, Items, Key, Memory, Name, PlaceOf, RegionId};
 use std::alloc::Global;
@@ -33,7 +33,7 @@ pub fn is_off(place: &PlaceOf) -> bool
     }
 }
 
-pub fn is_gone(place: &PlaceOf) -> bool
+fn is_gone(place: &PlaceOf) -> bool
     ensures { result ≡ is_gone place.now }
 {
     match place {
@@ -43,6 +43,16 @@ pub fn is_gone(place: &PlaceOf) -> bool
         PlaceOf::Closing(_) => false,
         PlaceOf::Lost(_) => false,
         PlaceOf::Gone => true,
+    }
+}
+
+pub fn next_place(have: &PlaceOf, next: &PlaceOf) -> PlaceOf
+    ensures { result ≡ next_place have.now next.now }
+{
+    if is_gone(have) || is_gone(next) {
+        *have
+    } else {
+        *next
     }
 }
 
