@@ -6,8 +6,10 @@
 mod bounds;
 mod error;
 mod map;
+mod merge;
 mod order;
 mod region;
+mod split;
 
 pub use error::MetaError;
 pub use map::RegionMap;
