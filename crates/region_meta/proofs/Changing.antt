@@ -1,8 +1,8 @@
 -- What the calls make of the regions, by their places.
-use Rattle.std.proofs.Common.{◌≡◌, ℕ, ◌+◌, ◌-◌, ◌<◌, ◌≤◌, Bool, true, false, cond, List, [], ◌∷◌, ◌++◌, length, get_or, Option, Some, None, refl, ap, sym, ◌∙◌, subst, slice_get, set, arith, find, map}
+use Rattle.std.proofs.Common.{◌≡◌, ℕ, ◌+◌, ◌-◌, ◌<◌, ◌≤◌, Bool, true, false, cond, List, [], ◌∷◌, ◌++◌, length, get_or, Option, Some, None, refl, ap, sym, ◌∙◌, subst, slice_get, set, arith, find, map, position, length-set, ⊎_elim, suc, zero}
 use Rattle.std.specs.Prelude.{IsSome, is_some, ◌||◌}
-use Rattle.std.proofs.lemmas.Bool.{false≢true, or_parts}
-use Rattle.std.proofs.lemmas.List.{map-set, map-append}
+use Rattle.std.proofs.lemmas.Bool.{false≢true, or_parts, cases_eq, and_parts}
+use Rattle.std.proofs.lemmas.List.{map-set, map-append, set-get_or, set-append_left, length-map}
 use Rattle.std.proofs.Math.Seq.{map-set_same}
 use Rattle.std.proofs.lemmas.Option.{none-some, same_Some, slice_get_within, get_or_from_slice_get}
 use Rattle.rep_types.specs.declared.state.PlaceOf.{PlaceOf}
@@ -11,6 +11,7 @@ use Rattle.region_meta.specs.declared.region.Region.{Region}
 use Rattle.region_meta.specs.Regions.{Map, Table, given, is_region, is_gone, region_of}
 use Rattle.region_meta.specs.Changes.{replace, moved, next_place, placed, split_at, merged, low_half, high_half, joined, next_number}
 use Rattle.region_meta.specs.Orders.{Shape, shape}
+use Rattle.region_meta.proofs.Lookups.{append-left, set-other, set-here}
 use Rattle.region_meta.proofs.Shapes.{Numbered, region-at, replace-at}
 
 pub some-within : (rs : List Region) → Numbered rs → (n : ℕ) → 1 ≤ n → IsSome (find (is_region n) rs) → n - 1 < length rs
@@ -48,3 +49,45 @@ split-is tables rs n key r numbered least e =
     let m : Map = record { tables = tables; regions = rs } in
     ap (λ (xs : List Region). record m { regions = xs ++ low_half (length rs + 1) key r ∷ high_half (length rs + 1 + 1) key r ∷ [] }) (sym (replace-at rs numbered n r (moved place.Gone r) least e))
     ∙ sym (ap (λ (o : Option Region). given o m (λ r. record m { regions = replace (is_region n) (moved place.Gone r) rs ++ low_half (length rs + 1) key r ∷ high_half (length rs + 1 + 1) key r ∷ [] })) (region-at rs numbered n least ∙ e))
+
+-- an item is set to what it is
+pub set-same : {X : Type 0} (xs : List X) (i : ℕ) (x y : X) → slice_get xs i ≡ Some x → y ≡ x → set xs i y ≡ xs
+set-same xs i x y e same = ap (set xs i) (same ∙ sym (get_or_from_slice_get xs i x x e)) ∙ set-get_or xs i x
+
+-- one region is Gone, with others behind
+pub gone-one : (old news now : List Region) (i : ℕ) (r x : Region) → now ≡ old ++ news → i < length old → slice_get now i ≡ Some x → slice_get old i ≡ Some r
+    → set now i (moved place.Gone x) ≡ set old i (moved place.Gone r) ++ news
+gone-one old news now i r x is within at e =
+    let same : x ≡ r = same_Some x r (sym at ∙ (ap (λ (xs : List Region). slice_get xs i) is ∙ (append-left old news i within ∙ e))) in
+    ap (λ (xs : List Region). set xs i (moved place.Gone x)) is
+    ∙ (set-append_left old news i (moved place.Gone x) within ∙ ap (λ (y : Region). set old i (moved place.Gone y) ++ news) same)
+
+pub gone-two : (old news now : List Region) (i j : ℕ) (r s x y : Region) → now ≡ old ++ news → i < length old → j < length old → (j ≡ i → ⊥)
+    → slice_get now i ≡ Some x → slice_get (set now i (moved place.Gone x)) j ≡ Some y → slice_get old i ≡ Some r → slice_get old j ≡ Some s
+    → set (set now i (moved place.Gone x)) j (moved place.Gone y) ≡ set (set old i (moved place.Gone r)) j (moved place.Gone s) ++ news
+gone-two old news now i j r s x y is within_i within_j apart at_x at_y e f =
+    gone-one (set old i (moved place.Gone r)) news (set now i (moved place.Gone x)) j s y
+      (gone-one old news now i r x is within_i at_x e)
+      (subst (λ n. j < n) (sym (length-set old i (moved place.Gone r))) within_j)
+      at_y (set-other old i j (moved place.Gone r) apart ∙ f)
+
+still-numbered : (rs : List Region) (i : ℕ) (r : Region) → Numbered rs → slice_get rs i ≡ Some r → Numbered (set rs i (moved place.Gone r))
+still-numbered rs i r numbered e n x at =
+    ⊎_elim
+      (λ here.
+        let is : moved place.Gone r ≡ x = same_Some (moved place.Gone r) x (sym (set-here rs i (moved place.Gone r) (slice_get_within rs i r e)) ∙ (ap (slice_get (set rs i (moved place.Gone r))) (sym here) ∙ at)) in
+        ap (λ (y : Region). y.number) (sym is) ∙ (numbered i r e ∙ ap (λ k. k + 1) (sym here)))
+      (λ apart. numbered n x (sym (set-other rs i n (moved place.Gone r) apart) ∙ at))
+      (cases_eq n i)
+
+pub merge-is : (tables : List Table) (rs : List Region) (n m : ℕ) (r s : Region) → Numbered rs → 1 ≤ n → 1 ≤ m → (m - 1 ≡ n - 1 → ⊥) → slice_get rs (n - 1) ≡ Some r → slice_get rs (m - 1) ≡ Some s
+    → record { tables = tables; regions = set (set rs (n - 1) (moved place.Gone r)) (m - 1) (moved place.Gone s) ++ joined (length rs + 1) r s ∷ [] } ≡ merged n m (record { tables = tables; regions = rs })
+unfolding given
+merge-is tables rs n m r s numbered least_n least_m apart e f =
+    let mp : Map = record { tables = tables; regions = rs } in
+    let ys : List Region = set rs (n - 1) (moved place.Gone r) in
+    ap (λ (xs : List Region). record mp { regions = xs ++ joined (length rs + 1) r s ∷ [] })
+      (sym (replace-at ys (still-numbered rs (n - 1) r numbered e) m s (moved place.Gone s) least_m (set-other rs (n - 1) (m - 1) (moved place.Gone r) apart ∙ f))
+      ∙ ap (replace (is_region m) (moved place.Gone s)) (sym (replace-at rs numbered n r (moved place.Gone r) least_n e)))
+    ∙ (sym (ap (λ (o : Option Region). given o mp (λ s. record mp { regions = replace (is_region m) (moved place.Gone s) (replace (is_region n) (moved place.Gone r) rs) ++ joined (length rs + 1) r s ∷ [] })) (region-at rs numbered m least_m ∙ f))
+    ∙ sym (ap (λ (o : Option Region). given o mp (λ r. given (find (is_region m) rs) mp (λ s. record mp { regions = replace (is_region m) (moved place.Gone s) (replace (is_region n) (moved place.Gone r) rs) ++ joined (length rs + 1) r s ∷ [] }))) (region-at rs numbered n least_n ∙ e)))
