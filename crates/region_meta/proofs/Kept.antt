@@ -119,6 +119,14 @@ alone : (k : ℕ) (v s : Shape) → slice_get (s ∷ []) k ≡ Some v → (k ≡
 alone zero v s e = (refl, same_Some s v e)
 alone (suc k) v s e = absurd (none-some v e)
 
+pub one-new : (count : ℕ) (t : List ℕ) (s : Shape) → count + 1 ≤ 4096 → s.number ≡ count + 1 → s.generation ≤ count → s.table ≡ t → AreNew count t (s ∷ [])
+one-new count t s few numbered young table = record {
+      few = few;
+      numbered = λ k v e. let l = alone k v s e in subst (λ (w : Shape). w.number ≡ (count + k) + 1) l.1 (let z : k ≡ 0 = l.0 in omega arith);
+      young = λ k v e. let l = alone k v s e in subst (λ (w : Shape). w.generation ≤ count + k) l.1 (omega arith);
+      table_is = λ k v e. let l = alone k v s e in subst (λ (w : Shape). w.table ≡ t) l.1 table
+    }
+
 -- a new table with its first region
 pub added-kept : (tables : List Table) (xs : List Shape) (orders : List (List ℕ)) (x : Table) (s : Shape) → IsKept tables xs orders
     → position (is_named x.name) tables ≡ None → length xs + 1 ≤ 4096 → s.number ≡ length xs + 1 → s.generation ≤ length xs
@@ -135,12 +143,7 @@ added-kept tables xs orders x s kept absent few numbered young tile high = recor
     }
   where
     new : AreNew (length xs) x.name (s ∷ [])
-    new = record {
-      few = few;
-      numbered = λ k v e. let l = alone k v s e in subst (λ (w : Shape). w.number ≡ (length xs + k) + 1) l.1 (let n : s.number ≡ length xs + 1 = numbered in let z : k ≡ 0 = l.0 in omega arith);
-      young = λ k v e. let l = alone k v s e in subst (λ (w : Shape). w.generation ≤ length xs + k) l.1 (let n : s.generation ≤ length xs = young in omega arith);
-      table_is = λ k v e. let l = alone k v s e in subst (λ (w : Shape). w.table ≡ x.name) l.1 tile.table_is
-    }
+    new = one-new (length xs) x.name s few numbered young tile.table_is
     itself : IsSome (position (is_named x.name) (tables ++ x ∷ []))
     itself = ap is_some (position-new (is_named x.name) tables x absent ∙ ap (λ b. cond b (Some (length tables)) None) ((bytes_eq-Decides x.name x.name).1 refl))
     still : (z : List ℕ) → IsSome (position (is_named z) tables) → IsSome (position (is_named z) (tables ++ x ∷ []))

@@ -1,7 +1,8 @@
 -- What stands where nothing is refused.
 use Rattle.std.proofs.Common.{◌≡◌, ℕ, ◌+◌, ◌<◌, ◌≤◌, Bool, true, false, not, cond, List, [], ◌∷◌, length, Option, Some, None, Result, Ok, Err, refl, ap, sym, ◌∙◌, arith}
-use Rattle.std.specs.Prelude.{nat_lt, is_none, IfSome}
-use Rattle.std.proofs.lemmas.Bool.{ltb-false, not-false}
+use Rattle.std.specs.Prelude.{nat_lt, is_none, IfSome, OnErr}
+use Rattle.std.specs.Result.{is_err}
+use Rattle.std.proofs.lemmas.Bool.{ltb-false, not-false, false≢true}
 use Rattle.std.proofs.lemmas.Option.{none-some}
 use Rattle.rep_types.specs.declared.state.PlaceOf.{PlaceOf}
 use Rattle.rep_types.specs.declared.state.PlaceOf.TheVariants as place
@@ -78,3 +79,7 @@ not-gone (place.On s) h = refl
 not-gone (place.Closing s) h = refl
 not-gone (place.Lost s) h = refl
 not-gone place.Gone h = sym h
+
+pub on-err : {X E : Type 0} (r : Result X E) (P : Type 0) → is_err r ≡ true → OnErr r P → P
+on-err (Ok x) P e h = absurd (false≢true e)
+on-err (Err x) P e h = h
