@@ -78,7 +78,7 @@ split-kept tables rs orders i at r ns key kept e there order off key_splits room
     shapes : map shape (set rs i (moved place.Gone r) ++ lo ∷ hi ∷ []) ≡ set (map shape rs) i (record (shape r) { gone = true }) ++ shape lo ∷ shape hi ∷ []
     shapes = map-append shape (set rs i (moved place.Gone r)) (lo ∷ hi ∷ []) ∙ ap (λ (xs : List Shape). xs ++ shape lo ∷ shape hi ∷ []) (map-set shape rs i (moved place.Gone r))
 
-some-at : {X : Type 0} (xs : List X) (i : ℕ) → i < length xs → (x : X) × (slice_get xs i ≡ Some x)
+pub some-at : {X : Type 0} (xs : List X) (i : ℕ) → i < length xs → (x : X) × (slice_get xs i ≡ Some x)
 some-at [] i within = absurd (omega arith)
 some-at (x ∷ xs) zero within = (x, refl)
 some-at (x ∷ xs) (suc i) within = some-at xs i (omega arith)

@@ -6,6 +6,7 @@ pub mod Keys
 pub mod Lists
 pub mod Located
 pub mod Lookups
+pub mod Made
 pub mod Refused
 pub mod Shapes
 pub mod Tables
