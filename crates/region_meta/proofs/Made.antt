@@ -2,16 +2,20 @@
 use Rattle.std.proofs.Common.{◌≡◌, ℕ, ◌+◌, ◌-◌, ◌<◌, ◌≤◌, Bool, true, List, [], ◌∷◌, ◌++◌, length, Option, Some, None, refl, ap, sym, ◌∙◌, subst, slice_get, set, arith, map, position, find}
 use Rattle.std.specs.Prelude.{is_some}
 use Rattle.std.proofs.lemmas.Bool.{true≢false}
+use Rattle.std.proofs.lemmas.List.{map-append, length-map}
 use Rattle.std.proofs.lemmas.Option.{none-some, same_Some, slice_get_within}
+use Rattle.rep_types.specs.declared.table.Family.{Family}
 use Rattle.rep_types.specs.declared.state.PlaceOf.TheVariants as place
 use Rattle.region_meta.specs.declared.region.Region.{Region}
 use Rattle.region_meta.specs.Regions.{Map, Table, is_named, is_region, is_off}
 use Rattle.region_meta.specs.Refusals.{split_refusal, merge_refusal, splits, is_adjacent}
-use Rattle.region_meta.specs.Changes.{moved, low_half, high_half, joined}
+use Rattle.region_meta.specs.Changes.{moved, new_table, first_region, low_half, high_half, joined}
 use Rattle.region_meta.specs.Orders.{shape, IsKept, put_halves, put_other, leave_out}
 use Rattle.region_meta.proofs.Shapes.{Numbered, numbered-regions, region-at, shape-at}
 use Rattle.region_meta.proofs.Lookups.{position-at, Passes}
-use Rattle.region_meta.proofs.Refused.{MaySplit, may-split, MayMerge, may-merge}
+use Rattle.region_meta.proofs.Refused.{MaySplit, may-split, MayMerge, may-merge, MayAdd}
+use Rattle.region_meta.proofs.Kept.{added-kept}
+use Rattle.region_meta.proofs.Tables.{not-placed}
 use Rattle.region_meta.proofs.Grown.{some-at, split-kept, merge-kept}
 
 -- the region of a number is the one at its place
@@ -95,3 +99,24 @@ whole-made tables rs made orders made_orders i j at count a r s whole kept both 
     joined_is = whole_is ∙ ap (λ k. joined k r s) (let c : count ≡ length rs = count_is in let e : a ≡ count + 1 = a_is in omega arith)
     made_is : made ≡ set (set rs i (moved place.Gone r)) j (moved place.Gone s) ++ joined (length rs + 1) r s ∷ []
     made_is = regions_are r s (sym there_r) (sym there_s) ∙ ap (λ (x : Region). set (set rs i (moved place.Gone r)) j (moved place.Gone s) ++ x ∷ []) joined_is
+
+pub table-made : (tables made_tables : List Table) (rs made : List Region) (orders made_orders : List (List ℕ)) (name t : List ℕ) (families : List Family) (r : Region) (order : List ℕ) (count a : ℕ)
+    → IsKept tables (map shape rs) orders → MayAdd t (record { tables = tables; regions = rs }) → name ≡ t → count ≡ length rs → a ≡ count + 1 → r ≡ first_region a t → order ≡ count ∷ []
+    → made_tables ≡ tables ++ new_table name families ∷ [] → made ≡ rs ++ r ∷ [] → made_orders ≡ orders ++ order ∷ []
+    → IsKept made_tables (map shape made) made_orders
+table-made tables made_tables rs made orders made_orders name t families r order count a kept may name_is count_is a_is r_is order_is tables_are regions_are orders_are =
+    subst (λ ts. IsKept ts (map shape made) made_orders) (sym (tables_are ∙ ap (λ n. tables ++ new_table n families ∷ []) name_is))
+    (subst (λ xs. IsKept (tables ++ new_table t families ∷ []) xs made_orders) (sym shapes)
+    (subst (λ os. IsKept (tables ++ new_table t families ∷ []) (map shape rs ++ shape first ∷ []) os) (sym places)
+      (added-kept tables (map shape rs) orders (new_table t families) (shape first) kept (not-placed tables t may.absent)
+        (let room : length rs + 1 ≤ 4096 = may.room in let l : length (map shape rs) ≡ length rs = length-map rs shape in omega arith)
+        (let l : length (map shape rs) ≡ length rs = length-map rs shape in omega arith) (omega arith)
+        (record { table_is = refl; alive = refl; begins = refl; some = refl }) refl)))
+  where
+    first : Region
+    first = first_region (length rs + 1) t
+    shapes : map shape made ≡ map shape rs ++ shape first ∷ []
+    shapes = ap (map shape) regions_are ∙ (map-append shape rs (r ∷ [])
+        ∙ ap (λ (x : Region). map shape rs ++ shape x ∷ []) (r_is ∙ ap (λ n. first_region n t) (let c : count ≡ length rs = count_is in let e : a ≡ count + 1 = a_is in omega arith)))
+    places : made_orders ≡ orders ++ (length (map shape rs) ∷ []) ∷ []
+    places = orders_are ∙ (ap (λ o. orders ++ o ∷ []) order_is ∙ ap (λ n. orders ++ (n ∷ []) ∷ []) (count_is ∙ sym (length-map rs shape)))

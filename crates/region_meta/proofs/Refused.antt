@@ -1,6 +1,6 @@
 -- What stands where nothing is refused.
 use Rattle.std.proofs.Common.{◌≡◌, ℕ, ◌+◌, ◌<◌, ◌≤◌, Bool, true, false, not, cond, List, [], ◌∷◌, length, Option, Some, None, Result, Ok, Err, refl, ap, sym, ◌∙◌, arith}
-use Rattle.std.specs.Prelude.{nat_lt, is_none, IfSome, OnErr}
+use Rattle.std.specs.Prelude.{nat_lt, is_none, is_some, IfSome, OnErr}
 use Rattle.std.specs.Result.{is_err}
 use Rattle.std.proofs.lemmas.Bool.{ltb-false, not-false, false≢true}
 use Rattle.std.proofs.lemmas.Option.{none-some}
@@ -9,8 +9,8 @@ use Rattle.rep_types.specs.declared.state.PlaceOf.TheVariants as place
 use Rattle.region_meta.specs.declared.region.Region.{Region}
 use Rattle.region_meta.specs.declared.error.MetaError.{MetaError}
 use Rattle.region_meta.specs.declared.error.MetaError.TheVariants as error
-use Rattle.region_meta.specs.Regions.{Map, given, if_some, is_off, is_gone, region_of}
-use Rattle.region_meta.specs.Refusals.{first, too_many, split_refusal, merge_refusal, splits, is_adjacent}
+use Rattle.region_meta.specs.Regions.{Map, given, if_some, is_off, is_gone, region_of, table_of}
+use Rattle.region_meta.specs.Refusals.{first, too_many, table_refusal, split_refusal, merge_refusal, splits, is_adjacent}
 
 pub none-refused : {X : Type 0} (o : Option MetaError) (x : X) → IfSome o (λ why. Ok x ≡ Err why) → o ≡ None
 none-refused None x h = refl
@@ -83,3 +83,13 @@ not-gone place.Gone h = sym h
 pub on-err : {X E : Type 0} (r : Result X E) (P : Type 0) → is_err r ≡ true → OnErr r P → P
 on-err (Ok x) P e h = absurd (false≢true e)
 on-err (Err x) P e h = h
+
+pub record MayAdd (name : List ℕ) (m : Map) : Type 0 where
+  pub absent : is_some (table_of name m) ≡ false
+  pub room : length m.regions + 1 ≤ 4096
+
+pub may-add : (name : List ℕ) (m : Map) → table_refusal name m ≡ None → MayAdd name m
+may-add name m h =
+    let a = passed (is_some (table_of name m)) error.Exists _ h in
+    let b = passed (too_many 1 m) (error.TooMany 4096) None a.1 in
+    record { absent = a.0; room = ltb-false 4096 (length m.regions + 1) b.0 }

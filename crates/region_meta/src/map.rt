@@ -1,8 +1,9 @@
-ghost use Rattle.std.specs.Prelude.{◌≡◌, ℕ, ◌+◌, ◌<◌, ◌↔◌, [], ◌∷◌, ◌++◌, true, None, Some, Ok, Err, IsOk, IsTrue, if◌then◌else◌, IsNone, IsSome, IfSome, IfOk, OnOk, OnErr, IsOkUnless, find, position, is_some, length};
+ghost use Rattle.std.specs.Prelude.{◌≡◌, ℕ, ◌+◌, ◌<◌, ◌↔◌, [], ◌∷◌, ◌++◌, true, None, Some, Ok, Err, IsOk, IsTrue, if◌then◌else◌, IsNone, IsSome, IfSome, IfOk, OnOk, OnErr, IsOkUnless, find, position, is_some, length, string_bytes};
 ghost use Rattle.std.specs.Option.{option_copied, option_map};
 ghost use Rattle.region_meta.specs.Regions.{Map, table_of, region_of, is_named, serves, if_some};
 ghost use Rattle.region_meta.specs.Refusals.{table_refusal, too_many};
-ghost use Rattle.region_meta.specs.Changes.{next_number, table_added, placed};
+ghost use Rattle.region_meta.specs.Changes.{next_number, new_table, table_added, placed};
+ghost use Rattle.region_meta.specs.Orders.{listed};
 ghost use Rattle.region_meta.specs.declared.error.MetaError.{MetaError};
 ghost use Rattle.region_meta.specs.declared.error.MetaError.TheVariants as error;
 
@@ -141,19 +142,19 @@ impl RegionMap {
         let Some(number) = RegionId::new(count as u32 + 1) else {
             return Err(MetaError::TooMany { limit: 4096 });
         };
-        let name = String::from_str(alloc, table.as_str()).map_err(Memory::from)?;
+        let name = text_of(alloc, &table)?;
         let order = Order::new(alloc, count)?;
-        add_first(
+        add_all(
+            &mut self.names,
             &mut self.regions,
             &mut self.orders,
-            first_region(alloc, number, table),
-            order,
+            NewTable {
+                name,
+                families,
+                region: first_region(alloc, number, table),
+                order,
+            },
         )?;
-        if self.names.insert(name, families).is_err() {
-            self.regions.truncate(count);
-            self.orders.truncate(self.names.len());
-            return Err(MetaError::Memory);
-        }
         Ok(number)
     }
 
@@ -168,22 +169,66 @@ impl RegionMap {
     }
 }
 
-// Adds both or none.
-fn add_first(
-    regions: &mut Items<Region>,
-    orders: &mut Items<Order>,
+fn text_of(alloc: Global, name: &Name) -> Result<String, Memory>
+    ensures { IfOk result (λ text. string_bytes text ≡ name.now) }
+{
+    let text = String::from_str(alloc, name.as_str())?;
+    Ok(text)
+}
+
+// Adds a name that isn't there.
+fn add_name(
+    names: &mut IndexMap<String, Families>,
+    name: String,
+    families: Families,
+) -> Result<(), Memory>
+    requires absent { position (is_named (string_bytes name)) (listed names.old.entries) ≡ None }
+    ensures ok { OnOk result (listed names.new.entries ≡ listed names.old.entries ++ new_table (string_bytes name) families ∷ []) }
+    ensures err { OnErr result (names.new.entries ≡ names.old.entries) }
+{
+    names.insert(name, families)?;
+    Ok(())
+}
+
+// A table with its first region, and the order of its regions.
+struct NewTable {
+    name: String,
+    families: Families,
     region: Region,
     order: Order,
+}
+
+// Adds the table whole, or nothing.
+fn add_all(
+    names: &mut IndexMap<String, Families>,
+    regions: &mut Items<Region>,
+    orders: &mut Items<Order>,
+    new: NewTable,
 ) -> Result<(), Memory>
-    ensures regions { OnOk result (regions.new ≡ regions.old ++ region ∷ []) }
-    ensures orders { OnOk result (orders.new ≡ orders.old ++ order ∷ []) }
+    requires absent { position (is_named (string_bytes new.name)) (listed names.old.entries) ≡ None }
+    ensures names { OnOk result (listed names.new.entries ≡ listed names.old.entries ++ new_table (string_bytes new.name) new.families ∷ []) }
+    ensures regions { OnOk result (regions.new ≡ regions.old ++ new.region ∷ []) }
+    ensures orders { OnOk result (orders.new ≡ orders.old ++ new.order ∷ []) }
+    ensures names_stay { OnErr result (names.new.entries ≡ names.old.entries) }
     ensures regions_stay { OnErr result (regions.new ≡ regions.old) }
     ensures orders_stay { OnErr result (orders.new ≡ orders.old) }
 {
+    let NewTable {
+        name,
+        families,
+        region,
+        order,
+    } = new;
     let count = regions.len();
+    let tables = orders.len();
     regions.push(region)?;
     if orders.push(order).is_err() {
         regions.truncate(count);
+        return Err(Memory);
+    }
+    if add_name(names, name, families).is_err() {
+        regions.truncate(count);
+        orders.truncate(tables);
         return Err(Memory);
     }
     Ok(())
