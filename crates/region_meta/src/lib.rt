@@ -14,3 +14,6 @@ mod split;
 pub use error::MetaError;
 pub use map::RegionMap;
 pub use region::Region;
+
+#[cfg(test)]
+mod tests;
