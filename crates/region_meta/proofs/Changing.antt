@@ -67,18 +67,18 @@ pub gone-two : (old news now : List Region) (i j : ℕ) (r s x y : Region) → n
     → set (set now i (moved place.Gone x)) j (moved place.Gone y) ≡ set (set old i (moved place.Gone r)) j (moved place.Gone s) ++ news
 gone-two old news now i j r s x y is within_i within_j apart at_x at_y e f =
     gone-one (set old i (moved place.Gone r)) news (set now i (moved place.Gone x)) j s y
-      (gone-one old news now i r x is within_i at_x e)
-      (subst (λ n. j < n) (sym (length-set old i (moved place.Gone r))) within_j)
-      at_y (set-other old i j (moved place.Gone r) apart ∙ f)
+    (gone-one old news now i r x is within_i at_x e)
+    (subst (λ n. j < n) (sym (length-set old i (moved place.Gone r))) within_j)
+    at_y (set-other old i j (moved place.Gone r) apart ∙ f)
 
 still-numbered : (rs : List Region) (i : ℕ) (r : Region) → Numbered rs → slice_get rs i ≡ Some r → Numbered (set rs i (moved place.Gone r))
 still-numbered rs i r numbered e n x at =
     ⊎_elim
-      (λ here.
-        let is : moved place.Gone r ≡ x = same_Some (moved place.Gone r) x (sym (set-here rs i (moved place.Gone r) (slice_get_within rs i r e)) ∙ (ap (slice_get (set rs i (moved place.Gone r))) (sym here) ∙ at)) in
-        ap (λ (y : Region). y.number) (sym is) ∙ (numbered i r e ∙ ap (λ k. k + 1) (sym here)))
-      (λ apart. numbered n x (sym (set-other rs i n (moved place.Gone r) apart) ∙ at))
-      (cases_eq n i)
+    (λ here.
+    let is : moved place.Gone r ≡ x = same_Some (moved place.Gone r) x (sym (set-here rs i (moved place.Gone r) (slice_get_within rs i r e)) ∙ (ap (slice_get (set rs i (moved place.Gone r))) (sym here) ∙ at)) in
+    ap (λ (y : Region). y.number) (sym is) ∙ (numbered i r e ∙ ap (λ k. k + 1) (sym here)))
+    (λ apart. numbered n x (sym (set-other rs i n (moved place.Gone r) apart) ∙ at))
+    (cases_eq n i)
 
 pub merge-is : (tables : List Table) (rs : List Region) (n m : ℕ) (r s : Region) → Numbered rs → 1 ≤ n → 1 ≤ m → (m - 1 ≡ n - 1 → ⊥) → slice_get rs (n - 1) ≡ Some r → slice_get rs (m - 1) ≡ Some s
     → record { tables = tables; regions = set (set rs (n - 1) (moved place.Gone r)) (m - 1) (moved place.Gone s) ++ joined (length rs + 1) r s ∷ [] } ≡ merged n m (record { tables = tables; regions = rs })
@@ -87,7 +87,7 @@ merge-is tables rs n m r s numbered least_n least_m apart e f =
     let mp : Map = record { tables = tables; regions = rs } in
     let ys : List Region = set rs (n - 1) (moved place.Gone r) in
     ap (λ (xs : List Region). record mp { regions = xs ++ joined (length rs + 1) r s ∷ [] })
-      (sym (replace-at ys (still-numbered rs (n - 1) r numbered e) m s (moved place.Gone s) least_m (set-other rs (n - 1) (m - 1) (moved place.Gone r) apart ∙ f))
-      ∙ ap (replace (is_region m) (moved place.Gone s)) (sym (replace-at rs numbered n r (moved place.Gone r) least_n e)))
+    (sym (replace-at ys (still-numbered rs (n - 1) r numbered e) m s (moved place.Gone s) least_m (set-other rs (n - 1) (m - 1) (moved place.Gone r) apart ∙ f))
+    ∙ ap (replace (is_region m) (moved place.Gone s)) (sym (replace-at rs numbered n r (moved place.Gone r) least_n e)))
     ∙ (sym (ap (λ (o : Option Region). given o mp (λ s. record mp { regions = replace (is_region m) (moved place.Gone s) (replace (is_region n) (moved place.Gone r) rs) ++ joined (length rs + 1) r s ∷ [] })) (region-at rs numbered m least_m ∙ f))
     ∙ sym (ap (λ (o : Option Region). given o mp (λ r. given (find (is_region m) rs) mp (λ s. record mp { regions = replace (is_region m) (moved place.Gone s) (replace (is_region n) (moved place.Gone r) rs) ++ joined (length rs + 1) r s ∷ [] }))) (region-at rs numbered n least_n ∙ e)))

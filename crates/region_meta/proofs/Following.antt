@@ -37,8 +37,8 @@ pub all-after : (shapes : List Shape) (t : List ℕ) (a b : Cut) (ns : List ℕ)
 all-after shapes t a b [] f n u i e = absurd i
 all-after shapes t a b (m ∷ ns) f n u i e =
     subst (λ c. After c u) f.2.begins (⊎_elim
-      (λ same. let is : f.0 ≡ u = same_Some f.0 u (sym f.1 ∙ ap (slice_get shapes) (sym same) ∙ e) in subst (λ (x : Shape). After (Some f.0.low) x) is (After-begins f.0))
-      (λ later. After-end f.0 u f.2.some (all-after shapes t (end_of f.0) b ns f.3 n u later e)) i)
+    (λ same. let is : f.0 ≡ u = same_Some f.0 u (sym f.1 ∙ ap (slice_get shapes) (sym same) ∙ e) in subst (λ (x : Shape). After (Some f.0.low) x) is (After-begins f.0))
+    (λ later. After-end f.0 u f.2.some (all-after shapes t (end_of f.0) b ns f.3 n u later e)) i)
 
 -- nothing that begins behind a region's end holds a key that the region holds
 apart : (s u : Shape) (row : List ℕ) → is_below row s.high ≡ true → After (end_of s) u → is_from u.low row ≡ true → ⊥
@@ -69,12 +69,12 @@ only-one shapes t a b (x ∷ ns) row f n m s u i j e d hs hu =
     let shs = and_parts (is_from s.low row) (is_below row s.high) hs in
     let shu = and_parts (is_from u.low row) (is_below row u.high) hu in
     ⊎_elim
-      (λ first. ⊎_elim
-        (λ also. first ∙ sym also)
-        (λ later. absurd (apart s u row shs.1 (subst (λ (c : Shape). After (end_of c) u) (same_Some f.0 s (sym f.1 ∙ ap (slice_get shapes) (sym first) ∙ e)) (all-after shapes t (end_of f.0) b ns f.3 m u later d)) shu.0)) j)
-      (λ later. ⊎_elim
-        (λ also. absurd (apart u s row shu.1 (subst (λ (c : Shape). After (end_of c) s) (same_Some f.0 u (sym f.1 ∙ ap (slice_get shapes) (sym also) ∙ d)) (all-after shapes t (end_of f.0) b ns f.3 n s later e)) shs.0))
-        (λ both. only-one shapes t (end_of f.0) b ns row f.3 n m s u later both e d hs hu) j) i
+    (λ first. ⊎_elim
+    (λ also. first ∙ sym also)
+    (λ later. absurd (apart s u row shs.1 (subst (λ (c : Shape). After (end_of c) u) (same_Some f.0 s (sym f.1 ∙ ap (slice_get shapes) (sym first) ∙ e)) (all-after shapes t (end_of f.0) b ns f.3 m u later d)) shu.0)) j)
+    (λ later. ⊎_elim
+    (λ also. absurd (apart u s row shu.1 (subst (λ (c : Shape). After (end_of c) s) (same_Some f.0 u (sym f.1 ∙ ap (slice_get shapes) (sym also) ∙ d)) (all-after shapes t (end_of f.0) b ns f.3 n s later e)) shs.0))
+    (λ both. only-one shapes t (end_of f.0) b ns row f.3 n m s u later both e d hs hu) j) i
 
 -- what is known of the region at a place of the order
 pub record Seat (shapes : List Shape) (t : List ℕ) (ns : List ℕ) (to : Cut) (k : ℕ) : Type 0 where
@@ -103,7 +103,7 @@ seat shapes t a b (n ∷ ns) f zero within = record {
   alive = f.2.alive;
   inside = inl refl;
   next = λ more. first_next shapes t (end_of f.0) b ns f.3 (omega arith);
-  last = λ e. ends-at shapes t (end_of f.0) b ns f.3 (omega arith)
+  last = λ e. ends-at shapes t (end_of f.0) b ns f.3 (omega arith);
 }
 seat shapes t a b (n ∷ ns) f (suc k) within =
     let later : Seat shapes t ns b k = seat shapes t (end_of f.0) b ns f.3 k (omega arith) in
@@ -114,7 +114,7 @@ seat shapes t a b (n ∷ ns) f (suc k) within =
       alive = later.alive;
       inside = inr later.inside;
       next = λ more. later.next (omega arith);
-      last = λ e. later.last (omega arith)
+      last = λ e. later.last (omega arith);
     }
 
 pub begins_first : (shapes : List Shape) (t : List ℕ) (a b : Cut) (ns : List ℕ) → Follow shapes t a ns b → (s : Shape) → 0 < length ns → slice_get shapes (get_or ns 0 0) ≡ Some s → Some s.low ≡ a
@@ -150,12 +150,15 @@ follow-spliced shapes others t a b (n ∷ ns) p s ys f e i same middle =
           let is : f.0 ≡ s = same_Some f.0 s (sym f.1 ∙ ap (slice_get shapes) here ∙ e) in
           let rest : Follow others t (end_of f.0) ns b = follow-same shapes others t (end_of f.0) b ns f.3 (λ m i. same m (inr i) (λ g. not-later shapes t a b n ns f m i (g ∙ sym here))) in
           follow-append others t a (end_of s) b ys ns
-            (subst (λ c. Follow others t c ys (end_of s)) (ap (λ (x : Shape). Some x.low) (sym is) ∙ f.2.begins) middle)
-            (subst (λ (x : Shape). Follow others t (end_of x) ns b) is rest)
+          (subst (λ c. Follow others t c ys (end_of s)) (ap (λ (x : Shape). Some x.low) (sym is) ∙ f.2.begins) middle)
+          (subst (λ (x : Shape). Follow others t (end_of x) ns b) is rest)
       | false ↦ λ at.
-          let there : n ≡ p → ⊥ = eqb-false n p at in
-          (f.0, same n (inl refl) there ∙ f.1, f.2,
-           follow-spliced shapes others t (end_of f.0) b ns p s ys f.3 e (⊎_elim (λ here. absurd (there (sym here))) (λ later. later) i) (λ m i. same m (inr i)) middle)
+          let there : n ≡ p → ⊥ = eqb-false n p at in (
+            f.0,
+            same n (inl refl) there ∙ f.1,
+            f.2,
+            follow-spliced shapes others t (end_of f.0) b ns p s ys f.3 e (⊎_elim (λ here. absurd (there (sym here))) (λ later. later) i) (λ m i. same m (inr i)) middle,
+          )
     ]) refl
 
 -- the region at a place of the order
@@ -163,8 +166,8 @@ pub member : (shapes : List Shape) (t : List ℕ) (a b : Cut) (ns : List ℕ) �
 member shapes t a b [] f n i = absurd i
 member shapes t a b (m ∷ ns) f n i =
     ⊎_elim
-      (λ here. (f.0, ap (slice_get shapes) here ∙ f.1, f.2.table_is))
-      (λ later. member shapes t (end_of f.0) b ns f.3 n later) i
+    (λ here. (f.0, ap (slice_get shapes) here ∙ f.1, f.2.table_is))
+    (λ later. member shapes t (end_of f.0) b ns f.3 n later) i
 
 -- a key that a region begins with is held by it
 holds-low : (u : Shape) (k : List ℕ) → u.low ≡ Some k → begins_below u.low u.high ≡ true → shape_holds u k ≡ true
@@ -186,8 +189,8 @@ follow-without others shapes t b (n ∷ ns) q u k f e i low some same {c} ends =
     (elim (nat_eq n q) as (λ (test : Bool). nat_eq n q ≡ test → Follow others t c (cond test ns (n ∷ leave_out q ns)) b) [
       | true ↦ λ at.
           follow-same shapes others t c b ns
-            (subst (λ (d : Cut). Follow shapes t d ns b) (ap end_of is ∙ sym ends) f.3)
-            (λ m i. same m (inr i) (λ g. not-later shapes t (Some (Some k)) b n ns f m i (g ∙ sym here)))
+          (subst (λ (d : Cut). Follow shapes t d ns b) (ap end_of is ∙ sym ends) f.3)
+          (λ m i. same m (inr i) (λ g. not-later shapes t (Some (Some k)) b n ns f m i (g ∙ sym here)))
       | false ↦ λ at. absurd (eqb-false n q at here)
     ]) refl
 
@@ -212,8 +215,8 @@ pub member-some : (shapes : List Shape) (t : List ℕ) (a b : Cut) (ns : List �
 member-some shapes t a b [] f n s i e = absurd i
 member-some shapes t a b (m ∷ ns) f n s i e =
     ⊎_elim
-      (λ here. subst (λ (x : Shape). begins_below x.low x.high ≡ true) (same_Some f.0 s (sym f.1 ∙ ap (slice_get shapes) (sym here) ∙ e)) f.2.some)
-      (λ later. member-some shapes t (end_of f.0) b ns f.3 n s later e) i
+    (λ here. subst (λ (x : Shape). begins_below x.low x.high ≡ true) (same_Some f.0 s (sym f.1 ∙ ap (slice_get shapes) (sym here) ∙ e)) f.2.some)
+    (λ later. member-some shapes t (end_of f.0) b ns f.3 n s later e) i
 
 in-left : (n : ℕ) (ms ns : List ℕ) → IsIn n ms → IsIn n (ms ++ ns)
 in-left n [] ns i = absurd i
@@ -261,9 +264,12 @@ follow-joined shapes others t a b (n ∷ ns) p q w s u x k f es eu ip iq hs hu a
           let kept : (m : ℕ) → IsIn m ns → (m ≡ q → ⊥) → slice_get others m ≡ slice_get shapes m = λ m i d. same m (inr i) (λ g. not-later shapes t a b n ns f m i (g ∙ sym here)) d in
           (elim (nat_eq w q) as (λ (t2 : Bool). nat_eq w q ≡ t2 → Follow others t a (cond t2 ns (w ∷ leave_out q ns)) b) [
             | true ↦ λ bad. absurd (apart_w (eqb-true w q bad))
-            | false ↦ λ _.
-                (x, ex, subst (λ (c : Cut). IsTile t c x) begins tile,
-                 follow-without others shapes t b ns q u k (subst (λ (o : Option (List ℕ)). Follow shapes t (option_map Some o) ns b) hs rest) eu q_later hu su kept (ap (option_map Some) hx))
+            | false ↦ λ _. (
+              x,
+              ex,
+              subst (λ (c : Cut). IsTile t c x) begins tile,
+              follow-without others shapes t b ns q u k (subst (λ (o : Option (List ℕ)). Follow shapes t (option_map Some o) ns b) hs rest) eu q_later hu su kept (ap (option_map Some) hx),
+            )
           ]) refl
       | false ↦ λ at.
           let there : n ≡ p → ⊥ = eqb-false n p at in
@@ -271,8 +277,11 @@ follow-joined shapes others t a b (n ∷ ns) p q w s u x k f es eu ip iq hs hu a
           let not_q : n ≡ q → ⊥ = λ g. early shapes t a b n ns s u k f (ap (slice_get shapes) g ∙ eu) p p_later es hs hu ss su in
           (elim (nat_eq n q) as (λ (t2 : Bool). nat_eq n q ≡ t2 → Follow others t a (cond t2 (put_other p w ns) (n ∷ leave_out q (put_other p w ns))) b) [
             | true ↦ λ bad. absurd (not_q (eqb-true n q bad))
-            | false ↦ λ _.
-                (f.0, same n (inl refl) there not_q ∙ f.1, f.2,
-                 follow-joined shapes others t (end_of f.0) b ns p q w s u x k f.3 es eu p_later (⊎_elim (λ first. absurd (not_q (sym first))) (λ later. later) iq) hs hu apart_w apart_p ss su (λ m i. same m (inr i)) ex tile hx)
+            | false ↦ λ _. (
+              f.0,
+              same n (inl refl) there not_q ∙ f.1,
+              f.2,
+              follow-joined shapes others t (end_of f.0) b ns p q w s u x k f.3 es eu p_later (⊎_elim (λ first. absurd (not_q (sym first))) (λ later. later) iq) hs hu apart_w apart_p ss su (λ m i. same m (inr i)) ex tile hx,
+            )
           ]) refl
     ]) refl

@@ -38,14 +38,17 @@ halves-new rs i key r room young within = record { few = let l = same in omega a
   where
     same : length (map shape rs) ≡ length rs
     same = length-map rs shape
+
     numbered : (k : ℕ) (s : Shape) → slice_get (shape (low_half (length rs + 1) key r) ∷ shape (high_half (length rs + 1 + 1) key r) ∷ []) k ≡ Some s → s.number ≡ (length (map shape rs) + k) + 1
     numbered zero s e = sym (ap (λ (x : Shape). x.number) (same_Some _ s e)) ∙ (let l : length (map shape rs) ≡ length rs = same in omega arith)
     numbered (suc zero) s e = sym (ap (λ (x : Shape). x.number) (same_Some _ s e)) ∙ (let l : length (map shape rs) ≡ length rs = same in omega arith)
     numbered (suc (suc k)) s e = absurd (none-some s e)
+
     generations : (k : ℕ) (s : Shape) → slice_get (shape (low_half (length rs + 1) key r) ∷ shape (high_half (length rs + 1 + 1) key r) ∷ []) k ≡ Some s → s.generation ≤ length (map shape rs) + k
     generations zero s e = subst (λ (x : Shape). x.generation ≤ length (map shape rs) + 0) (same_Some _ s e) (let l : length (map shape rs) ≡ length rs = same in omega arith)
     generations (suc zero) s e = subst (λ (x : Shape). x.generation ≤ length (map shape rs) + 1) (same_Some _ s e) (let l : length (map shape rs) ≡ length rs = same in omega arith)
     generations (suc (suc k)) s e = absurd (none-some s e)
+
     table_is : (k : ℕ) (s : Shape) → slice_get (shape (low_half (length rs + 1) key r) ∷ shape (high_half (length rs + 1 + 1) key r) ∷ []) k ≡ Some s → s.table ≡ r.table
     table_is zero s e = ap (λ (x : Shape). x.table) (sym (same_Some _ s e))
     table_is (suc zero) s e = ap (λ (x : Shape). x.table) (sym (same_Some _ s e))
@@ -58,23 +61,27 @@ pub split-kept : (tables : List Table) (rs : List Region) (orders : List (List �
 split-kept tables rs orders i at r ns key kept e there order off key_splits room =
     subst (λ (xs : List Shape). IsKept tables xs (set orders at (put_halves i (length rs) ns))) (sym shapes)
     (subst (λ n. IsKept tables (set (map shape rs) i (record (shape r) { gone = true }) ++ shape lo ∷ shape hi ∷ []) (set orders at (put_halves i n ns))) (length-map rs shape)
-      (grown-kept (λ n. n ≡ i) tables (map shape rs) (set (map shape rs) i (record (shape r) { gone = true })) (shape lo ∷ shape hi ∷ []) orders r.table at (put_halves i (length (map shape rs)) ns)
-        kept (retires-one (map shape rs) i (shape r) here)
-        (halves-new rs i key r room (kept.young i (shape r) here) (slice_get_within rs i r e))
-        (λ n s g f. ap (λ (x : Shape). x.table) (same_Some s (shape r) (sym f ∙ (ap (slice_get (map shape rs)) g ∙ here))))
-        there
-        (split-order (map shape rs) r.table ns i (shape r) (shape lo) (shape hi) key (kept.ordered r.table at ns there order) here refl (not-gone r.place off)
-          (record { table_is = refl; alive = refl; begins = refl; some = begins-low r.low key parts.0 }) refl
-          (record { table_is = refl; alive = refl; begins = refl; some = parts.1 }) refl)))
+    (grown-kept (λ n. n ≡ i) tables (map shape rs) (set (map shape rs) i (record (shape r) { gone = true })) (shape lo ∷ shape hi ∷ []) orders r.table at (put_halves i (length (map shape rs)) ns)
+    kept (retires-one (map shape rs) i (shape r) here)
+    (halves-new rs i key r room (kept.young i (shape r) here) (slice_get_within rs i r e))
+    (λ n s g f. ap (λ (x : Shape). x.table) (same_Some s (shape r) (sym f ∙ (ap (slice_get (map shape rs)) g ∙ here))))
+    there
+    (split-order (map shape rs) r.table ns i (shape r) (shape lo) (shape hi) key (kept.ordered r.table at ns there order) here refl (not-gone r.place off)
+    (record { table_is = refl; alive = refl; begins = refl; some = begins-low r.low key parts.0 }) refl
+    (record { table_is = refl; alive = refl; begins = refl; some = parts.1 }) refl)))
   where
     lo : Region
     lo = low_half (length rs + 1) key r
+
     hi : Region
     hi = high_half (length rs + 1 + 1) key r
+
     here : slice_get (map shape rs) i ≡ Some (shape r)
     here = shape-at rs i r e
+
     parts : (low_below r.low key ≡ true) × (is_below key r.high ≡ true)
     parts = and_parts (low_below r.low key) (is_below key r.high) (and_parts (not (bytes_eq key (codes "."))) (low_below r.low key && is_below key r.high) key_splits).1
+
     shapes : map shape (set rs i (moved place.Gone r) ++ lo ∷ hi ∷ []) ≡ set (map shape rs) i (record (shape r) { gone = true }) ++ shape lo ∷ shape hi ∷ []
     shapes = map-append shape (set rs i (moved place.Gone r)) (lo ∷ hi ∷ []) ∙ ap (λ (xs : List Shape). xs ++ shape lo ∷ shape hi ∷ []) (map-set shape rs i (moved place.Gone r))
 
@@ -89,6 +96,7 @@ begins-below-end tables rs orders i r kept e off = by (position (is_named r.tabl
   where
     here : slice_get (map shape rs) i ≡ Some (shape r)
     here = shape-at rs i r e
+
     by : (o : Option ℕ) → position (is_named r.table) tables ≡ o → is_some o ≡ true → begins_below r.low r.high ≡ true
     by None there h = absurd (false≢true h)
     by (Some at) there h =
@@ -127,7 +135,7 @@ adjacent-apart tables rs orders i j r s kept e f off adjacent same =
     let one : s ≡ r = same_Some s r (sym f ∙ (ap (slice_get rs) same ∙ e)) in
     let low : r.low ≡ Some t.key = ap (λ (x : Region). x.low) (sym one) ∙ t.begins in
     both_ways (key_below t.key t.key) (below-itself t.key)
-      (subst (λ (o : Option (List ℕ)). begins_below o (Some t.key) ≡ true) low (subst (λ (o : Option (List ℕ)). begins_below r.low o ≡ true) t.ends (begins-below-end tables rs orders i r kept e off)))
+    (subst (λ (o : Option (List ℕ)). begins_below o (Some t.key) ≡ true) low (subst (λ (o : Option (List ℕ)). begins_below r.low o ≡ true) t.ends (begins-below-end tables rs orders i r kept e off)))
 
 pub merge-kept : (tables : List Table) (rs : List Region) (orders : List (List ℕ)) (i j at : ℕ) (r s : Region) (ns : List ℕ)
     → IsKept tables (map shape rs) orders → slice_get rs i ≡ Some r → slice_get rs j ≡ Some s → position (is_named r.table) tables ≡ Some at → slice_get orders at ≡ Some ns
@@ -136,34 +144,42 @@ pub merge-kept : (tables : List Table) (rs : List Region) (orders : List (List �
 merge-kept tables rs orders i j at r s ns kept e f there order off_r off_s adjacent room =
     subst (λ (xs : List Shape). IsKept tables xs (set orders at (leave_out j (put_other i (length rs) ns)))) (sym shapes)
     (subst (λ n. IsKept tables (zs ++ shape whole ∷ []) (set orders at (leave_out j (put_other i n ns)))) (length-map rs shape)
-      (grown-kept (λ n. (n ≡ i) ⊎ (n ≡ j)) tables (map shape rs) zs (shape whole ∷ []) orders r.table at (leave_out j (put_other i (length (map shape rs)) ns))
-        kept (retires-two (map shape rs) i j (shape r) (shape s) here_r here_s apart)
-        (one-new (length (map shape rs)) r.table (shape whole) (let l : length (map shape rs) ≡ length rs = length-map rs shape in omega arith)
-          (let l : length (map shape rs) ≡ length rs = length-map rs shape in omega arith) old refl)
-        (λ n u g h. ⊎_elim
-          (λ a. ap (λ (x : Shape). x.table) (same_Some u (shape r) (sym h ∙ (ap (slice_get (map shape rs)) a ∙ here_r))))
-          (λ b. ap (λ (x : Shape). x.table) (same_Some u (shape s) (sym h ∙ (ap (slice_get (map shape rs)) b ∙ here_s))) ∙ sym t.table_is) g)
-        there
-        (merge-order (map shape rs) r.table ns i j (shape r) (shape s) (shape whole) t.key (kept.ordered r.table at ns there order) here_r here_s refl (sym t.table_is)
-          (not-gone r.place off_r) (not-gone s.place off_s) t.ends t.begins apart
-          (record { table_is = refl; alive = refl; begins = refl; some = below-through r.low s.high t.key some_r some_s }) refl)))
+    (grown-kept (λ n. (n ≡ i) ⊎ (n ≡ j)) tables (map shape rs) zs (shape whole ∷ []) orders r.table at (leave_out j (put_other i (length (map shape rs)) ns))
+    kept (retires-two (map shape rs) i j (shape r) (shape s) here_r here_s apart)
+    (one-new (length (map shape rs)) r.table (shape whole) (let l : length (map shape rs) ≡ length rs = length-map rs shape in omega arith)
+    (let l : length (map shape rs) ≡ length rs = length-map rs shape in omega arith) old refl)
+    (λ n u g h. ⊎_elim
+    (λ a. ap (λ (x : Shape). x.table) (same_Some u (shape r) (sym h ∙ (ap (slice_get (map shape rs)) a ∙ here_r))))
+    (λ b. ap (λ (x : Shape). x.table) (same_Some u (shape s) (sym h ∙ (ap (slice_get (map shape rs)) b ∙ here_s))) ∙ sym t.table_is) g)
+    there
+    (merge-order (map shape rs) r.table ns i j (shape r) (shape s) (shape whole) t.key (kept.ordered r.table at ns there order) here_r here_s refl (sym t.table_is)
+    (not-gone r.place off_r) (not-gone s.place off_s) t.ends t.begins apart
+    (record { table_is = refl; alive = refl; begins = refl; some = below-through r.low s.high t.key some_r some_s }) refl)))
   where
     whole : Region
     whole = joined (length rs + 1) r s
+
     zs : List Shape
     zs = set (set (map shape rs) i (record (shape r) { gone = true })) j (record (shape s) { gone = true })
+
     here_r : slice_get (map shape rs) i ≡ Some (shape r)
     here_r = shape-at rs i r e
+
     here_s : slice_get (map shape rs) j ≡ Some (shape s)
     here_s = shape-at rs j s f
+
     t : Touch r s
     t = touch r s adjacent
+
     apart : j ≡ i → ⊥
     apart same = adjacent-apart tables rs orders i j r s kept e f off_r adjacent same
+
     some_r : begins_below r.low (Some t.key) ≡ true
     some_r = subst (λ (o : Option (List ℕ)). begins_below r.low o ≡ true) t.ends (begins-below-end tables rs orders i r kept e off_r)
+
     some_s : is_below t.key s.high ≡ true
     some_s = subst (λ (o : Option (List ℕ)). begins_below o s.high ≡ true) t.begins (begins-below-end tables rs orders j s kept f off_s)
+
     old : max r.generation s.generation + 1 ≤ length (map shape rs)
     old =
         let l : length (map shape rs) ≡ length rs = length-map rs shape in
@@ -172,6 +188,7 @@ merge-kept tables rs orders i j at r s ns kept e f there order off_r off_s adjac
         let within_r : i < length rs = slice_get_within rs i r e in
         let within_s : j < length rs = slice_get_within rs j s f in
         omega arith
+
     shapes : map shape (set (set rs i (moved place.Gone r)) j (moved place.Gone s) ++ whole ∷ []) ≡ zs ++ shape whole ∷ []
     shapes = map-append shape (set (set rs i (moved place.Gone r)) j (moved place.Gone s)) (whole ∷ [])
         ∙ ap (λ (xs : List Shape). xs ++ shape whole ∷ []) (map-set shape (set rs i (moved place.Gone r)) j (moved place.Gone s) ∙ ap (λ (xs : List Shape). set xs j (record (shape s) { gone = true })) (map-set shape rs i (moved place.Gone r)))

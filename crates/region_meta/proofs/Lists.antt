@@ -16,7 +16,7 @@ spliced-place : {X : Type 0} (p : X → Bool) (ys xs : List X) → position_or_l
 spliced-place p ys [] h = absurd (omega arith)
 spliced-place p ys (x ∷ xs) h =
     (elim (p x) as (λ (t : Bool). cond (not t) (1 + position_or_len p xs) 0 < length (x ∷ xs)
-        → cond t (ys ++ xs) (x ∷ spliced p ys xs) ≡ take (cond (not t) (1 + position_or_len p xs) 0) (x ∷ xs) ++ (ys ++ drop (1 + cond (not t) (1 + position_or_len p xs) 0) (x ∷ xs))) [
+    → cond t (ys ++ xs) (x ∷ spliced p ys xs) ≡ take (cond (not t) (1 + position_or_len p xs) 0) (x ∷ xs) ++ (ys ++ drop (1 + cond (not t) (1 + position_or_len p xs) 0) (x ∷ xs))) [
       | true ↦ λ _. refl
       | false ↦ λ less. rw (take-next x xs (position_or_len p xs), drop-next x xs (position_or_len p xs)) (ap (λ es. x ∷ es) (spliced-place p ys xs (omega arith)))
     ]) h
@@ -74,7 +74,7 @@ two-place : {X : Type 0} (p : X → Bool) (y z : X) (xs : List X) → position_o
 two-place p y z [] h = absurd (omega arith)
 two-place p y z (x ∷ xs) h =
     (elim (p x) as (λ (t : Bool). cond (not t) (1 + position_or_len p xs) 0 < length (x ∷ xs)
-        → set (insert (x ∷ xs) (cond (not t) (1 + position_or_len p xs) 0) y) (1 + cond (not t) (1 + position_or_len p xs) 0) z ≡ cond t ((y ∷ z ∷ []) ++ xs) (x ∷ spliced p (y ∷ z ∷ []) xs)) [
+    → set (insert (x ∷ xs) (cond (not t) (1 + position_or_len p xs) 0) y) (1 + cond (not t) (1 + position_or_len p xs) 0) z ≡ cond t ((y ∷ z ∷ []) ++ xs) (x ∷ spliced p (y ∷ z ∷ []) xs)) [
       | true ↦ λ _. refl
       | false ↦ λ less.
           ap (λ es. set es (1 + (1 + position_or_len p xs)) z) (insert-next x y xs (position_or_len p xs))

@@ -27,29 +27,33 @@ found-holds rs row t ns k f last st =
   where
     within : k < length ns
     within = last.within
+
     from : is_from st.s.low row ≡ true
     from = ⊎_elim
-      (λ zero_k. let low : Some st.s.low ≡ Some None = begins_first (map shape rs) t (Some None) None ns f st.s (omega arith) (ap (λ i. slice_get (map shape rs) (get_or ns i 0)) (sym zero_k) ∙ st.at) in
+        (λ zero_k. let low : Some st.s.low ≡ Some None = begins_first (map shape rs) t (Some None) None ns f st.s (omega arith) (ap (λ i. slice_get (map shape rs) (get_or ns i 0)) (sym zero_k) ∙ st.at) in
         ap (λ (o : Option (List ℕ)). is_from o row) (same_Some st.s.low None low))
-      (λ begins. let sh : Shaped rs (get_or ns k 0) st.s = shaped rs (get_or ns k 0) st.s st.at in
+        (λ begins. let sh : Shaped rs (get_or ns k 0) st.s = shaped rs (get_or ns k 0) st.s st.at in
         ap (λ (s : Shape). is_from s.low row) (sym sh.is) ∙ (sym (begins-at rs row (get_or ns k 0) sh.r sh.at) ∙ begins)) last.begins
+
     by_end : (high : Option (List ℕ)) (u : Shape) → option_map Some high ≡ Some u.low → is_from u.low row ≡ false → is_below row high ≡ true
     by_end None u e out = absurd (none-some u.low e)
     by_end (Some h) u e out = not-false (key_below row h) (ap (λ (o : Option (List ℕ)). is_from o row) (same_Some (Some h) u.low e) ∙ out)
+
     at_last : (high : Option (List ℕ)) → option_map Some high ≡ None → is_below row high ≡ true
     at_last None e = refl
     at_last (Some h) e = absurd (none-some (Some h) (sym e))
+
     below : is_below row st.s.high ≡ true
     below = ⊎_elim
-      (λ more.
+        (λ more.
         let nx = st.next more in
         let sh : Shaped rs (get_or ns (suc k) 0) nx.0 = shaped rs (get_or ns (suc k) 0) nx.0 nx.1 in
         let same : k + 1 ≡ suc k = omega arith in
         by_end st.s.high nx.0 (sym nx.2)
-          (ap (λ (s : Shape). is_from s.low row) (sym sh.is)
-          ∙ (sym (begins-at rs row (get_or ns (suc k) 0) sh.r sh.at)
-          ∙ (ap (λ i. begins_by rs row (get_or ns i 0)) (sym same) ∙ last.next (omega arith)))))
-      (λ end. at_last st.s.high (st.last (omega arith))) (cases_lt (suc k) (length ns))
+        (ap (λ (s : Shape). is_from s.low row) (sym sh.is)
+        ∙ (sym (begins-at rs row (get_or ns (suc k) 0) sh.r sh.at)
+        ∙ (ap (λ i. begins_by rs row (get_or ns i 0)) (sym same) ∙ last.next (omega arith)))))
+        (λ end. at_last st.s.high (st.last (omega arith))) (cases_lt (suc k) (length ns))
 
 -- the one region that serves the row
 pub record Only (rs : List Region) (t row : List ℕ) (place : ℕ) : Type 0 where
@@ -64,16 +68,20 @@ only rs row t ns k place order last is =
   where
     st : Seat (map shape rs) t ns None k
     st = seat (map shape rs) t (Some None) None ns order.follow k last.within
+
     sh : Shaped rs (get_or ns k 0) st.s
     sh = shaped rs (get_or ns k 0) st.s st.at
+
     holds : shape_holds st.s row ≡ true
     holds = found-holds rs row t ns k order.follow last st
+
     serves_it : serves t row sh.r ≡ true
     serves_it =
         let table : sh.r.table ≡ t = ap (λ (s : Shape). s.table) sh.is ∙ st.table_is in
         and_from _ (not (is_gone sh.r.place))
-          (and_from (bytes_eq sh.r.table t) _ ((bytes_eq-Decides sh.r.table t).1 table) (ap (λ (s : Shape). shape_holds s row) sh.is ∙ holds))
-          (ap not (ap (λ (s : Shape). s.gone) sh.is ∙ st.alive))
+        (and_from (bytes_eq sh.r.table t) _ ((bytes_eq-Decides sh.r.table t).1 table) (ap (λ (s : Shape). shape_holds s row) sh.is ∙ holds))
+        (ap not (ap (λ (s : Shape). s.gone) sh.is ∙ st.alive))
+
     alone : (n : ℕ) (y : Region) → slice_get rs n ≡ Some y → serves t row y ≡ true → n ≡ place
     alone n y e s =
         let parts = and_parts _ (not (is_gone y.place)) s in
@@ -133,7 +141,7 @@ located-none tables rs orders t row kept absent =
     record {
       found = λ n. (λ e. absurd (none-some n e), λ h. let s : Numbering rs n (serves t row) = served rs n (serves t row) h in absurd (no_one s.i s.y s.at s.passes));
       none = (λ _. nothing (find (is_named t) tables) (position-found (is_named t) tables ∙ ap is_some absent), λ _. refl);
-      first = sym (ap (option_map (λ (r : Region). r.number)) (find-none (serves t row) rs no_one))
+      first = sym (ap (option_map (λ (r : Region). r.number)) (find-none (serves t row) rs no_one));
     }
 
 pub located-some : (tables : List Table) (rs : List Region) (orders : List (List ℕ)) (t row : List ℕ) (at : ℕ) (ns : List ℕ) (result : Option ℕ)
@@ -144,32 +152,39 @@ located-some tables rs orders t row at ns result kept there order holder =
   where
     place : ℕ
     place = get_or ns holder.k 0
+
     one : Only rs t row place
     one = only rs row t ns holder.k place (kept.ordered t at ns there order) holder.last refl
+
     is : result ≡ Some one.r.number
     is = holder.number_is ∙ ap (option_map (λ (r : Region). r.number)) one.at
+
     numbered : Numbered rs
     numbered = numbered-regions rs kept.numbered
+
     own : one.r.number ≡ place + 1
     own = numbered place one.r one.at
+
     first : option_map (λ (r : Region). r.number) (find (serves t row) rs) ≡ Some one.r.number
     first = ap (option_map (λ (r : Region). r.number)) (find-only (serves t row) rs place one.r one.at one.serves_it one.alone)
+
     found : (n : ℕ) → (result ≡ Some n) ↔ IsTrue (if_some (find (is_region n) rs) (serves t row))
-    found n =
-        ( (λ e.
-            let same : one.r.number ≡ n = same_Some one.r.number n (sym is ∙ e) in
-            let mine : one.r.number ≡ place + 1 = own in
-            let least : 1 ≤ n = omega arith in
-            let here : n - 1 ≡ place = omega arith in
-            serves-some rs n (serves t row) one.r (region-at rs numbered n least ∙ (ap (slice_get rs) here ∙ one.at)) one.serves_it)
-        , (λ h.
-            let s : Numbering rs n (serves t row) = served rs n (serves t row) h in
-            let here : s.i ≡ place = one.alone s.i s.y s.at s.passes in
-            let other : s.y.number ≡ s.i + 1 = numbered s.i s.y s.at in
-            let named : s.y.number ≡ n = s.number_is in
-            let mine : one.r.number ≡ place + 1 = own in
-            let same : one.r.number ≡ n = omega arith in
-            is ∙ ap Some same))
+    found n = (
+      (λ e.
+          let same : one.r.number ≡ n = same_Some one.r.number n (sym is ∙ e) in
+          let mine : one.r.number ≡ place + 1 = own in
+          let least : 1 ≤ n = omega arith in
+          let here : n - 1 ≡ place = omega arith in
+          serves-some rs n (serves t row) one.r (region-at rs numbered n least ∙ (ap (slice_get rs) here ∙ one.at)) one.serves_it),
+      (λ h.
+          let s : Numbering rs n (serves t row) = served rs n (serves t row) h in
+          let here : s.i ≡ place = one.alone s.i s.y s.at s.passes in
+          let other : s.y.number ≡ s.i + 1 = numbered s.i s.y s.at in
+          let named : s.y.number ≡ n = s.number_is in
+          let mine : one.r.number ≡ place + 1 = own in
+          let same : one.r.number ≡ n = omega arith in
+          is ∙ ap Some same),
+    )
 
 -- what the search asks
 pub some-places : (shapes : List Shape) (t : List ℕ) (ns : List ℕ) → Follow shapes t (Some None) ns None → 0 < length ns

@@ -37,8 +37,8 @@ append-cases [] ys n s e = inr (n, (omega arith), e)
 append-cases (x ∷ xs) ys zero s e = inl ((omega arith), e)
 append-cases (x ∷ xs) ys (suc n) s e =
     ⊎_elim
-      (λ old. let h : n < length xs = old.0 in inl ((omega arith), old.1))
-      (λ new. let h : n ≡ length xs + new.0 = new.1 in inr (new.0, (omega arith), new.2)) (append-cases xs ys n s e)
+    (λ old. let h : n < length xs = old.0 in inl ((omega arith), old.1))
+    (λ new. let h : n ≡ length xs + new.0 = new.1 in inr (new.0, (omega arith), new.2)) (append-cases xs ys n s e)
 
 -- the one item that passes is the first
 pub find-only : {X : Type 0} (p : X → Bool) (xs : List X) (i : ℕ) (x : X) → slice_get xs i ≡ Some x → p x ≡ true
@@ -78,11 +78,11 @@ find-none p (y ∷ ys) never =
 pub position-cons : {X : Type 0} (p : X → Bool) (x : X) (xs : List X) → position p (x ∷ xs) ≡ cond (p x) (Some 0) (option_map suc (position p xs))
 position-cons p x xs =
     elim (p x) as (λ (t : Bool). cond (nat_lt (cond (not t) (1 + position_or_len p xs) 0) (length (x ∷ xs))) (Some (cond (not t) (1 + position_or_len p xs) 0)) None
-        ≡ cond t (Some 0) (option_map suc (cond (nat_lt (position_or_len p xs) (length xs)) (Some (position_or_len p xs)) None))) [
+    ≡ cond t (Some 0) (option_map suc (cond (nat_lt (position_or_len p xs) (length xs)) (Some (position_or_len p xs)) None))) [
       | true ↦ grind (arith, nat_tests)
       | false ↦
           (elim (nat_lt (position_or_len p xs) (length xs)) as (λ (t : Bool). nat_lt (position_or_len p xs) (length xs) ≡ t
-              → cond (nat_lt (1 + position_or_len p xs) (length (x ∷ xs))) (Some (1 + position_or_len p xs)) None ≡ option_map suc (cond t (Some (position_or_len p xs)) None)) [
+          → cond (nat_lt (1 + position_or_len p xs) (length (x ∷ xs))) (Some (1 + position_or_len p xs)) None ≡ option_map suc (cond t (Some (position_or_len p xs)) None)) [
             | true ↦ λ t. grind (arith, nat_tests)
             | false ↦ λ t. grind (arith, nat_tests)
           ]) refl
@@ -109,9 +109,9 @@ position-at p (x ∷ xs) i e =
 pub position-found : {X : Type 0} (p : X → Bool) (xs : List X) → is_some (find p xs) ≡ is_some (position p xs)
 position-found p [] = refl
 position-found p (x ∷ xs) = (elim (p x) as (λ (t : Bool). is_some (cond t (Some x) (find p xs)) ≡ is_some (cond t (Some 0) (option_map suc (position p xs)))) [
-      | true ↦ refl
-      | false ↦ position-found p xs ∙ mapped (position p xs)
-    ]) ∙ sym (ap is_some (position-cons p x xs))
+  | true ↦ refl
+  | false ↦ position-found p xs ∙ mapped (position p xs)
+]) ∙ sym (ap is_some (position-cons p x xs))
   where
     mapped : (o : Option ℕ) → is_some o ≡ is_some (option_map suc o)
     mapped None = refl
@@ -144,6 +144,7 @@ position-new p (x ∷ xs) y e =
     at_end : (t : Bool) → option_map suc (cond t (Some (length xs)) None) ≡ cond t (Some (length (x ∷ xs))) None
     at_end true = refl
     at_end false = refl
+
     step : (o : Option ℕ) → (position p xs ≡ None → position p (xs ++ y ∷ []) ≡ cond (p y) (Some (length xs)) None) → position p xs ≡ o → option_map suc o ≡ None → option_map suc (position p (xs ++ y ∷ [])) ≡ cond (p y) (Some (length (x ∷ xs))) None
     step None later h g = ap (option_map suc) (later h) ∙ at_end (p y)
     step (Some j) later h g = absurd (none-some (suc j) (sym g))

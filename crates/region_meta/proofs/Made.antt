@@ -40,22 +40,29 @@ pub halves-made : (tables : List Table) (rs made : List Region) (orders made_ord
     → ((r : Region) → slice_get rs (number - 1) ≡ Some r → made ≡ set rs (number - 1) (moved place.Gone r) ++ lo ∷ hi ∷ [])
     → ((ns : List ℕ) → slice_get orders at ≡ Some ns → made_orders ≡ set orders at (put_halves (number - 1) (length rs) ns))
     → (made ≡ set rs (number - 1) (moved place.Gone r) ++ low_half (length rs + 1) key r ∷ high_half (length rs + 1 + 1) key r ∷ []) × IsKept tables (map shape made) made_orders
-halves-made tables rs made orders made_orders n number at count a b key closed r lo hi kept allowed same least there table count_is a_is b_is lo_is hi_is regions_are orders_are =
-    (made_is, subst (λ (xs : List Region). IsKept tables (map shape xs) made_orders) (sym made_is)
+halves-made tables rs made orders made_orders n number at count a b key closed r lo hi kept allowed same least there table count_is a_is b_is lo_is hi_is regions_are orders_are = (
+  made_is,
+  subst (λ (xs : List Region). IsKept tables (map shape xs) made_orders) (sym made_is)
       (subst (λ (os : List (List ℕ)). IsKept tables (map shape (set rs (number - 1) (moved place.Gone r) ++ low_half (length rs + 1) key r ∷ high_half (length rs + 1 + 1) key r ∷ [])) os) (sym (orders_are ns.0 ns.1))
-        (split-kept tables rs orders (number - 1) at r ns.0 key kept (sym there) (sym table) ns.1
-          (subst (λ (x : Region). is_off x.place ≡ true) is may.off) (subst (λ (x : Region). splits key x ≡ true) is may.key_splits) may.room)))
+      (split-kept tables rs orders (number - 1) at r ns.0 key kept (sym there) (sym table) ns.1
+      (subst (λ (x : Region). is_off x.place ≡ true) is may.off) (subst (λ (x : Region). splits key x ≡ true) is may.key_splits) may.room)),
+)
   where
     may : MaySplit n key (record { tables = tables; regions = rs })
     may = may-split n key closed (record { tables = tables; regions = rs }) allowed
+
     is : may.r ≡ r
     is = same_Some may.r r (sym may.there ∙ (found-there tables rs orders n number kept same least ∙ sym there))
+
     ns : (ns : List ℕ) × (slice_get orders at ≡ Some ns)
     ns = order-there tables rs orders r.table at kept table
+
     low_is : lo ≡ low_half (length rs + 1) key r
     low_is = lo_is ∙ ap (λ k. low_half k key r) (let c : count ≡ length rs = count_is in let e : a ≡ count + 1 = a_is in omega arith)
+
     high_is : hi ≡ high_half (length rs + 1 + 1) key r
     high_is = hi_is ∙ ap (λ k. high_half k key r) (let c : count ≡ length rs = count_is in let e : b ≡ count + 2 = b_is in omega arith)
+
     made_is : made ≡ set rs (number - 1) (moved place.Gone r) ++ low_half (length rs + 1) key r ∷ high_half (length rs + 1 + 1) key r ∷ []
     made_is = regions_are r (sym there)
         ∙ (ap (λ (x : Region). set rs (number - 1) (moved place.Gone r) ++ x ∷ hi ∷ []) low_is
@@ -79,7 +86,7 @@ both-found tables rs orders low high number_low number_high closed r s kept allo
       off_r = subst (λ (x : Region). is_off x.place ≡ true) is_r may.off_r;
       off_s = subst (λ (x : Region). is_off x.place ≡ true) is_s may.off_s;
       adjacent = subst (λ (x : Region). is_adjacent x s ≡ true) is_r (subst (λ (x : Region). is_adjacent may.r x ≡ true) is_s may.adjacent);
-      room = may.room
+      room = may.room;
     }
 
 pub whole-made : (tables : List Table) (rs made : List Region) (orders made_orders : List (List ℕ)) (i j at count a : ℕ) (r s whole : Region)
@@ -88,15 +95,19 @@ pub whole-made : (tables : List Table) (rs made : List Region) (orders made_orde
     → ((r s : Region) → slice_get rs i ≡ Some r → slice_get rs j ≡ Some s → made ≡ set (set rs i (moved place.Gone r)) j (moved place.Gone s) ++ whole ∷ [])
     → ((ns : List ℕ) → slice_get orders at ≡ Some ns → made_orders ≡ set orders at (leave_out j (put_other i (length rs) ns)))
     → (made ≡ set (set rs i (moved place.Gone r)) j (moved place.Gone s) ++ joined (length rs + 1) r s ∷ []) × IsKept tables (map shape made) made_orders
-whole-made tables rs made orders made_orders i j at count a r s whole kept both there_r there_s table count_is a_is whole_is regions_are orders_are =
-    (made_is, subst (λ (xs : List Region). IsKept tables (map shape xs) made_orders) (sym made_is)
+whole-made tables rs made orders made_orders i j at count a r s whole kept both there_r there_s table count_is a_is whole_is regions_are orders_are = (
+  made_is,
+  subst (λ (xs : List Region). IsKept tables (map shape xs) made_orders) (sym made_is)
       (subst (λ (os : List (List ℕ)). IsKept tables (map shape (set (set rs i (moved place.Gone r)) j (moved place.Gone s) ++ joined (length rs + 1) r s ∷ [])) os) (sym (orders_are ns.0 ns.1))
-        (merge-kept tables rs orders i j at r s ns.0 kept (sym there_r) (sym there_s) (sym table) ns.1 both.off_r both.off_s both.adjacent both.room)))
+      (merge-kept tables rs orders i j at r s ns.0 kept (sym there_r) (sym there_s) (sym table) ns.1 both.off_r both.off_s both.adjacent both.room)),
+)
   where
     ns : (ns : List ℕ) × (slice_get orders at ≡ Some ns)
     ns = order-there tables rs orders r.table at kept table
+
     joined_is : whole ≡ joined (length rs + 1) r s
     joined_is = whole_is ∙ ap (λ k. joined k r s) (let c : count ≡ length rs = count_is in let e : a ≡ count + 1 = a_is in omega arith)
+
     made_is : made ≡ set (set rs i (moved place.Gone r)) j (moved place.Gone s) ++ joined (length rs + 1) r s ∷ []
     made_is = regions_are r s (sym there_r) (sym there_s) ∙ ap (λ (x : Region). set (set rs i (moved place.Gone r)) j (moved place.Gone s) ++ x ∷ []) joined_is
 
@@ -108,15 +119,17 @@ table-made tables made_tables rs made orders made_orders name t families r order
     subst (λ ts. IsKept ts (map shape made) made_orders) (sym (tables_are ∙ ap (λ n. tables ++ new_table n families ∷ []) name_is))
     (subst (λ xs. IsKept (tables ++ new_table t families ∷ []) xs made_orders) (sym shapes)
     (subst (λ os. IsKept (tables ++ new_table t families ∷ []) (map shape rs ++ shape first ∷ []) os) (sym places)
-      (added-kept tables (map shape rs) orders (new_table t families) (shape first) kept (not-placed tables t may.absent)
-        (let room : length rs + 1 ≤ 4096 = may.room in let l : length (map shape rs) ≡ length rs = length-map rs shape in omega arith)
-        (let l : length (map shape rs) ≡ length rs = length-map rs shape in omega arith) (omega arith)
-        (record { table_is = refl; alive = refl; begins = refl; some = refl }) refl)))
+    (added-kept tables (map shape rs) orders (new_table t families) (shape first) kept (not-placed tables t may.absent)
+    (let room : length rs + 1 ≤ 4096 = may.room in let l : length (map shape rs) ≡ length rs = length-map rs shape in omega arith)
+    (let l : length (map shape rs) ≡ length rs = length-map rs shape in omega arith) (omega arith)
+    (record { table_is = refl; alive = refl; begins = refl; some = refl }) refl)))
   where
     first : Region
     first = first_region (length rs + 1) t
+
     shapes : map shape made ≡ map shape rs ++ shape first ∷ []
     shapes = ap (map shape) regions_are ∙ (map-append shape rs (r ∷ [])
         ∙ ap (λ (x : Region). map shape rs ++ shape x ∷ []) (r_is ∙ ap (λ n. first_region n t) (let c : count ≡ length rs = count_is in let e : a ≡ count + 1 = a_is in omega arith)))
+
     places : made_orders ≡ orders ++ (length (map shape rs) ∷ []) ∷ []
     places = orders_are ∙ (ap (λ o. orders ++ o ∷ []) order_is ∙ ap (λ n. orders ++ (n ∷ []) ∷ []) (count_is ∙ sym (length-map rs shape)))

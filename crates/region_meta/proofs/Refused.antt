@@ -30,7 +30,7 @@ pub record MaySplit (n : ℕ) (key : List ℕ) (m : Map) : Type 0 where
 
 split-by : (n : ℕ) (key : List ℕ) (closed : Bool) (m : Map) (o : Option Region) → region_of n m ≡ o
     → first ((is_none o, error.NoRegion) ∷ (not (is_off (given o place.Gone (λ r. r.place))), error.WrongPlace (given o place.Gone (λ r. r.place))) ∷ (not closed, error.NotClosed)
-      ∷ (not (if_some o (splits key)), error.BadKey) ∷ (too_many 2 m, error.TooMany 4096) ∷ []) ≡ None → MaySplit n key m
+    ∷ (not (if_some o (splits key)), error.BadKey) ∷ (too_many 2 m, error.TooMany 4096) ∷ []) ≡ None → MaySplit n key m
 unfolding given
 split-by n key closed m None e h = absurd (none-some error.NoRegion (sym h))
 split-by n key closed m (Some r) e h =
@@ -55,9 +55,9 @@ pub record MayMerge (low high : ℕ) (m : Map) : Type 0 where
 
 merge-by : (low high : ℕ) (closed : Bool) (m : Map) (o u : Option Region) → region_of low m ≡ o → region_of high m ≡ u
     → first ((is_none o, error.NoRegion) ∷ (is_none u, error.NoRegion)
-      ∷ (not (is_off (given o place.Gone (λ r. r.place))), error.WrongPlace (given o place.Gone (λ r. r.place)))
-      ∷ (not (is_off (given u place.Gone (λ r. r.place))), error.WrongPlace (given u place.Gone (λ r. r.place)))
-      ∷ (not closed, error.NotClosed) ∷ (not (if_some o (λ r. if_some u (is_adjacent r))), error.NotAdjacent) ∷ (too_many 1 m, error.TooMany 4096) ∷ []) ≡ None → MayMerge low high m
+    ∷ (not (is_off (given o place.Gone (λ r. r.place))), error.WrongPlace (given o place.Gone (λ r. r.place)))
+    ∷ (not (is_off (given u place.Gone (λ r. r.place))), error.WrongPlace (given u place.Gone (λ r. r.place)))
+    ∷ (not closed, error.NotClosed) ∷ (not (if_some o (λ r. if_some u (is_adjacent r))), error.NotAdjacent) ∷ (too_many 1 m, error.TooMany 4096) ∷ []) ≡ None → MayMerge low high m
 unfolding given
 merge-by low high closed m None u e f h = absurd (none-some error.NoRegion (sym h))
 merge-by low high closed m (Some r) None e f h = absurd (none-some error.NoRegion (sym h))

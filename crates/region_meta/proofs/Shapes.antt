@@ -44,18 +44,18 @@ region-at rs numbered n least = by (slice_get rs (n - 1)) refl
     by (Some r) e =
         let own : r.number ≡ (n - 1) + 1 = numbered (n - 1) r e in
         find-only (is_region n) rs (n - 1) r e (eq-eqb r.number n (omega arith)) (λ k y at is.
-          let other : y.number ≡ k + 1 = numbered k y at in
-          let same : y.number ≡ n = eqb-true y.number n is in
-          omega arith)
+        let other : y.number ≡ k + 1 = numbered k y at in
+        let same : y.number ≡ n = eqb-true y.number n is in
+        omega arith)
 
 -- what a region gives way to, by its place
 pub replace-at : (rs : List Region) → Numbered rs → (n : ℕ) → (r y : Region) → 1 ≤ n → slice_get rs (n - 1) ≡ Some r → replace (is_region n) y rs ≡ set rs (n - 1) y
 replace-at rs numbered n r y least e =
     let own : r.number ≡ (n - 1) + 1 = numbered (n - 1) r e in
     replace-only (is_region n) y rs (n - 1) r e (eq-eqb r.number n (omega arith)) (λ k z at is.
-      let other : z.number ≡ k + 1 = numbered k z at in
-      let same : z.number ≡ n = eqb-true z.number n is in
-      omega arith)
+    let other : z.number ≡ k + 1 = numbered k z at in
+    let same : z.number ≡ n = eqb-true z.number n is in
+    omega arith)
 
 -- a fact of what is lent, where something is
 pub copied : {X : Type 0} (o : Option (Bor X)) (P : X → Type 0) → ((x : X) → option_copied o ≡ Some x → P x) → IfSome o (λ r. P r.now)

@@ -25,7 +25,7 @@ listed-found [] t = refl
 listed-found (e ∷ es) t =
     ap (λ b. cond b (Some e.1) (lookup (λ k. bytes_eq t (string_bytes k)) es)) (nat_list_eq_equiv.symm t (string_bytes e.0))
     ∙ (elim (bytes_eq (string_bytes e.0) t) as (λ (b : Bool). cond b (Some e.1) (lookup (λ k. bytes_eq t (string_bytes k)) es)
-        ≡ option_map (λ (x : Table). x.families) (cond b (Some (record { name = string_bytes e.0; families = e.1 })) (find (is_named t) (listed es)))) [
+    ≡ option_map (λ (x : Table). x.families) (cond b (Some (record { name = string_bytes e.0; families = e.1 })) (find (is_named t) (listed es)))) [
       | true ↦ refl
       | false ↦ listed-found es t
     ])
@@ -37,7 +37,7 @@ listed-new [] k v absent = refl
 listed-new {Y} (e ∷ es) k v absent =
     ap listed (ap (λ b. cond b ((e.0, v) ∷ es) (e ∷ insert_entry string_eq es k v)) (nat_list_eq_equiv.symm (string_bytes k) (string_bytes e.0)))
     ∙ (elim (bytes_eq (string_bytes e.0) (string_bytes k)) as (λ (b : Bool). cond b (Some (record { name = string_bytes e.0; families = e.1 })) (find (is_named (string_bytes k)) (listed es)) ≡ None
-        → listed (cond b ((e.0, v) ∷ es) (e ∷ insert_entry string_eq es k v)) ≡ record { name = string_bytes e.0; families = e.1 } ∷ (listed es ++ new_table (string_bytes k) v ∷ [])) [
+    → listed (cond b ((e.0, v) ∷ es) (e ∷ insert_entry string_eq es k v)) ≡ record { name = string_bytes e.0; families = e.1 } ∷ (listed es ++ new_table (string_bytes k) v ∷ [])) [
       | true ↦ λ h. absurd (none-some _ (sym h))
       | false ↦ λ h. ap (λ xs. record { name = string_bytes e.0; families = e.1 } ∷ xs) (listed-new es k v h)
     ]) absent

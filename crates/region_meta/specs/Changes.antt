@@ -43,9 +43,11 @@ high_half number key r = record { number = number; table = r.table; low = Some k
 -- the region is Gone, and its halves are the next two
 abbrev pub split_at : ℕ → List ℕ → Map → Map
 split_at n key m =
-    given (region_of n m) m (λ r. record m { regions =
-    replace (is_region n) (moved place.Gone r) m.regions
-    ++ low_half (next_number m) key r ∷ high_half (next_number m + 1) key r ∷ [] })
+    given (region_of n m) m (λ r. record m {
+      regions =
+          replace (is_region n) (moved place.Gone r) m.regions
+          ++ low_half (next_number m) key r ∷ high_half (next_number m + 1) key r ∷ [];
+    })
 
 abbrev pub joined : ℕ → Region → Region → Region
 joined number r s = record { number = number; table = r.table; low = r.low; high = s.high; parents = r.number ∷ s.number ∷ []; generation = max r.generation s.generation + 1; place = place.Off }
@@ -53,6 +55,8 @@ joined number r s = record { number = number; table = r.table; low = r.low; high
 -- both regions are Gone, and what they make is the next
 abbrev pub merged : ℕ → ℕ → Map → Map
 merged low high m =
-    given (region_of low m) m (λ r. given (region_of high m) m (λ s. record m { regions =
-    replace (is_region high) (moved place.Gone s) (replace (is_region low) (moved place.Gone r) m.regions)
-    ++ joined (next_number m) r s ∷ [] }))
+    given (region_of low m) m (λ r. given (region_of high m) m (λ s. record m {
+      regions =
+          replace (is_region high) (moved place.Gone s) (replace (is_region low) (moved place.Gone r) m.regions)
+          ++ joined (next_number m) r s ∷ [];
+    }))

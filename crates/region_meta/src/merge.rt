@@ -104,14 +104,7 @@ impl RegionMap {
             return Err(MetaError::TooMany { limit: 4096 });
         };
         let whole = joined(alloc, number, first, second)?;
-        put_whole(
-            &mut self.regions,
-            &mut self.orders,
-            table,
-            low,
-            high,
-            whole,
-        )?;
+        put_whole(&mut self.regions, &mut self.orders, table, low, high, whole)?;
         Ok(number)
     }
 }

@@ -67,9 +67,7 @@ impl RegionMap {
             return Err(MetaError::NoRegion);
         };
         if !is_off(&parent.place) {
-            return Err(MetaError::WrongPlace {
-                have: parent.place,
-            });
+            return Err(MetaError::WrongPlace { have: parent.place });
         }
         if !closed {
             return Err(MetaError::NotClosed);

@@ -7,7 +7,7 @@ invariant-loop-end l = record {
   apart : l.first < l.end;
   within : l.end ≤ length l.places;
   begins : (l.first ≡ 0) ⊎ (begins_by l.regions l.row (slice_index l.places l.first) ≡ true);
-  next : l.end < length l.places → begins_by l.regions l.row (slice_index l.places l.end) ≡ false
+  next : l.end < length l.places → begins_by l.regions l.row (slice_index l.places l.end) ≡ false;
 }
 
 abbrev pub decreases-loop-end : goal.decreases-loop-end

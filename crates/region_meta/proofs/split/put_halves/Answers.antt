@@ -6,7 +6,7 @@ use Rattle.region_meta.proofs.split.put_halves.Goals as goal
 pub returns-then-is_err-clause-orders_stay : goal.returns-then-is_err-clause-orders_stay
 returns-then-is_err-clause-orders_stay c =
     set-same c.args.orders.now c.args.table c.at_mut.result.now c.split.new.self c.at_mut.ensures.value
-      (on-err c.split.result _ (sym c.is_err.ensures.value ∙ c.if-is_err.true) c.split.ensures.err)
+    (on-err c.split.result _ (sym c.is_err.ensures.value ∙ c.if-is_err.true) c.split.ensures.err)
 
 pub returns-clause-regions : goal.returns-clause-regions
 returns-clause-regions c =

@@ -10,7 +10,7 @@ absent : (c : goal.In_default) → Located c.args.self.now c.args.table.now c.ar
 absent c =
     subst (λ (m : Map). Located m c.args.table.now c.args.row.now None) c.self.view_is
     (located-none (listed c.self.inside.names.entries) c.self.inside.regions c.self.inside.orders c.args.table.now c.args.row.now c.self.invariant
-      (ap (λ (m : Map). position (is_named c.args.table.now) m.tables) c.self.view_is ∙ sym c.in_default.ensures.at))
+    (ap (λ (m : Map). position (is_named c.args.table.now) m.tables) c.self.view_is ∙ sym c.in_default.ensures.at))
 
 -- the table is at a place, and the search gives a number
 present : (tables : List Table) (rs : List Region) (orders : List (List ℕ)) (m : Map) (t row : List ℕ) (at : ℕ) (ns : List ℕ) (result : Option ℕ)

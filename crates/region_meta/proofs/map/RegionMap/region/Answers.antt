@@ -11,5 +11,5 @@ returns-clause-found c =
 pub returns-clause-number : goal.returns-clause-number
 returns-clause-number c =
     copied c.get.result (λ r. r.number ≡ c.args.region) (λ r e.
-      let own : r.number ≡ (c.number.result - 1) + 1 = numbered-regions c.self.inside.regions c.self.invariant.numbered (c.number.result - 1) r (sym c.get.ensures.value ∙ e) in
-      omega arith)
+    let own : r.number ≡ (c.number.result - 1) + 1 = numbered-regions c.self.inside.regions c.self.invariant.numbered (c.number.result - 1) r (sym c.get.ensures.value ∙ e) in
+    omega arith)

@@ -16,10 +16,10 @@ pub invariant_of-self : goal.invariant_of-self
 invariant_of-self c =
     rw c.next_place-region.ensures
     (subst (λ (xs : List Shape). IsKept (listed c.self.inside.names.entries) xs c.self.inside.orders)
-      (sym (placed-shapes c.self.inside.regions (c.number.result - 1) c.at_mut-region.result.now c.args.place c.at_mut-region.ensures.value)) c.self.invariant)
+    (sym (placed-shapes c.self.inside.regions (c.number.result - 1) c.at_mut-region.result.now c.args.place c.at_mut-region.ensures.value)) c.self.invariant)
 
 pub returns : goal.returns
 returns c =
     rw (c.next_place-region.ensures, ← c.self.view_is, ← c.number.ensures.value)
     (placed-is (listed c.self.inside.names.entries) c.self.inside.regions c.number.result c.args.place c.at_mut-region.result.now
-      (numbered-regions c.self.inside.regions c.self.invariant.numbered) c.number.ensures.least c.at_mut-region.ensures.value)
+    (numbered-regions c.self.inside.regions c.self.invariant.numbered) c.number.ensures.least c.at_mut-region.ensures.value)

@@ -24,24 +24,24 @@ returns-in_default-clause-accepted c = λ allowed.
     let m : Map = record { tables = listed c.self.inside.names.entries; regions = c.self.inside.regions } in
     let may : MaySplit c.args.region c.args.key.now m = may-split c.args.region c.args.key.now c.args.closed m (subst (λ (m : Map). split_refusal c.args.region c.args.key.now c.args.closed m ≡ None) (sym c.self.view_is) allowed) in
     absurd (none-some may.r (c.in_default.ensures.value
-      ∙ (sym (found-there (listed c.self.inside.names.entries) c.self.inside.regions c.self.inside.orders c.args.region c.number.result c.self.invariant c.number.ensures.value c.number.ensures.least) ∙ may.there)))
+    ∙ (sym (found-there (listed c.self.inside.names.entries) c.self.inside.regions c.self.inside.orders c.args.region c.number.result c.self.invariant c.number.ensures.value c.number.ensures.least) ∙ may.there)))
 
 pub returns-in_default-table_at-clause-accepted : goal.returns-in_default-table_at-clause-accepted
 returns-in_default-table_at-clause-accepted c = λ allowed.
     absurd (table-there (listed c.self.inside.names.entries) c.self.inside.regions c.self.inside.orders (c.number.result - 1) c.in-Some.parent.now c.self.invariant (sym c.in-Some.ensures.value)
-      (c.in_default-table_at.ensures.at ∙ ap (λ (m : Map). position (is_named c.in-Some.parent.now.table) m.tables) (sym c.self.view_is)))
+    (c.in_default-table_at.ensures.at ∙ ap (λ (m : Map). position (is_named c.in-Some.parent.now.table) m.tables) (sym c.self.view_is)))
 
 made : (c : goal.In_ok-put_halves) →
     (c.put_halves.new.regions ≡ set c.self.inside.regions (c.number.result - 1) (moved place.Gone c.in-Some.parent.now)
-      ++ low_half (length c.self.inside.regions + 1) c.args.key.now c.in-Some.parent.now ∷ high_half (length c.self.inside.regions + 1 + 1) c.args.key.now c.in-Some.parent.now ∷ [])
+    ++ low_half (length c.self.inside.regions + 1) c.args.key.now c.in-Some.parent.now ∷ high_half (length c.self.inside.regions + 1 + 1) c.args.key.now c.in-Some.parent.now ∷ [])
     × IsKept (listed c.self.inside.names.entries) (map shape c.put_halves.new.regions) c.put_halves.new.orders
 made c =
     halves-made (listed c.self.inside.names.entries) c.self.inside.regions c.put_halves.new.regions c.self.inside.orders c.put_halves.new.orders c.args.region c.number.result c.in-Some-table_at.table c.len-count.result
-      c.in-Some-new.low c.in-Some-new-2.high c.args.key.now c.args.closed c.in-Some.parent.now c.in_ok-low_half.low_half c.in_ok-high_half.high_half c.self.invariant
-      (subst (λ (m : Map). split_refusal c.args.region c.args.key.now c.args.closed m ≡ None) (sym c.self.view_is) (none-refused _ _ c.in_ok-may_split.ensures.refused))
-      c.number.ensures.value c.number.ensures.least c.in-Some.ensures.value
-      (c.in-Some-table_at.ensures.at ∙ ap (λ (m : Map). position (is_named c.in-Some.parent.now.table) m.tables) (sym c.self.view_is))
-      c.len-count.ensures c.in-Some-new.ensures.1 c.in-Some-new-2.ensures.1 c.in_ok-low_half.ensures c.in_ok-high_half.ensures c.in_ok-put_halves.ensures.regions c.in_ok-put_halves.ensures.orders
+    c.in-Some-new.low c.in-Some-new-2.high c.args.key.now c.args.closed c.in-Some.parent.now c.in_ok-low_half.low_half c.in_ok-high_half.high_half c.self.invariant
+    (subst (λ (m : Map). split_refusal c.args.region c.args.key.now c.args.closed m ≡ None) (sym c.self.view_is) (none-refused _ _ c.in_ok-may_split.ensures.refused))
+    c.number.ensures.value c.number.ensures.least c.in-Some.ensures.value
+    (c.in-Some-table_at.ensures.at ∙ ap (λ (m : Map). position (is_named c.in-Some.parent.now.table) m.tables) (sym c.self.view_is))
+    c.len-count.ensures c.in-Some-new.ensures.1 c.in-Some-new-2.ensures.1 c.in_ok-low_half.ensures c.in_ok-high_half.ensures c.in_ok-put_halves.ensures.regions c.in_ok-put_halves.ensures.orders
 
 pub invariant_of-self-2 : goal.invariant_of-self-2
 invariant_of-self-2 c = (made c).1
