@@ -1,16 +1,16 @@
 -- What the calls make of the regions, by their places.
-use Rattle.std.proofs.Common.{◌≡◌, ℕ, ◌+◌, ◌-◌, ◌<◌, ◌≤◌, Bool, true, false, cond, List, [], ◌∷◌, ◌++◌, length, get_or, Option, Some, None, refl, ap, sym, ◌∙◌, subst, slice_get, set, arith, find, map, position, length-set, ⊎_elim, suc, zero}
+use Rattle.std.proofs.Common.{◌≡◌, ℕ, ◌+◌, ◌-◌, ◌<◌, ◌≤◌, Bool, true, false, cond, List, [], ◌∷◌, ◌++◌, length, Option, Some, None, refl, ap, sym, ◌∙◌, subst, slice_get, set, find, map, length-set, ⊎_elim}
 use Rattle.std.specs.Prelude.{IsSome, is_some, ◌||◌}
-use Rattle.std.proofs.lemmas.Bool.{false≢true, or_parts, cases_eq, and_parts}
-use Rattle.std.proofs.lemmas.List.{map-set, map-append, set-get_or, set-append_left, length-map}
+use Rattle.std.proofs.lemmas.Bool.{false≢true, or_parts, cases_eq}
+use Rattle.std.proofs.lemmas.List.{set-get_or, set-append_left}
 use Rattle.std.proofs.Math.Seq.{map-set_same}
-use Rattle.std.proofs.lemmas.Option.{none-some, same_Some, slice_get_within, get_or_from_slice_get}
+use Rattle.std.proofs.lemmas.Option.{same_Some, slice_get_within, get_or_from_slice_get}
 use Rattle.rep_types.specs.declared.state.PlaceOf.{PlaceOf}
 use Rattle.rep_types.specs.declared.state.PlaceOf.TheVariants as place
 use Rattle.region_meta.specs.declared.region.Region.{Region}
-use Rattle.region_meta.specs.Regions.{Map, Table, given, is_region, is_gone, region_of}
-use Rattle.region_meta.specs.Changes.{replace, moved, next_place, placed, split_at, merged, low_half, high_half, joined, next_number}
-use Rattle.region_meta.specs.Orders.{Shape, shape}
+use Rattle.region_meta.specs.Regions.{Map, Table, given, is_region, is_gone}
+use Rattle.region_meta.specs.Changes.{replace, moved, next_place, placed, split_at, merged, low_half, high_half, joined}
+use Rattle.region_meta.specs.Orders.{shape}
 use Rattle.region_meta.proofs.Lookups.{append-left, set-other, set-here}
 use Rattle.region_meta.proofs.Shapes.{Numbered, region-at, replace-at}
 

@@ -1,12 +1,12 @@
 -- Regions that follow one another: at most one holds a key, and what comes instead of one of them.
-use Rattle.std.proofs.Common.{◌≡◌, ℕ, ◌+◌, ◌<◌, ◌⊎◌, inl, inr, ⊎_elim, Bool, true, false, not, cond, List, [], ◌∷◌, ◌++◌, length, get_or, Option, Some, None, refl, ap, sym, ◌∙◌, subst, slice_get, arith, suc, zero}
+use Rattle.std.proofs.Common.{◌≡◌, ℕ, ◌<◌, inl, inr, ⊎_elim, Bool, true, false, not, cond, List, [], ◌∷◌, ◌++◌, length, get_or, Option, Some, None, refl, ap, sym, ◌∙◌, subst, slice_get, arith, suc, zero}
 use Rattle.std.specs.Prelude.{◌&&◌, nat_eq}
 use Rattle.std.specs.Option.{option_map}
-use Rattle.std.proofs.lemmas.Bool.{both_ways, not-true, not_from_false, false≢true, true≢false, and_parts, and_from, eqb-true, eqb-false}
+use Rattle.std.proofs.lemmas.Bool.{both_ways, not-true, and_parts, and_from, eqb-true, eqb-false}
 use Rattle.std.proofs.lemmas.Option.{none-some, same_Some}
 use Rattle.rep_types.specs.Range.{key_below, is_below, is_from, begins_below}
 use Rattle.region_meta.specs.Orders.{Shape, Cut, IsTile, Follow, IsIn, end_of, spliced, is_place, put_other, leave_out}
-use Rattle.region_meta.proofs.Keys.{below-itself, below-back, below-below, upto-below, below-upto}
+use Rattle.region_meta.proofs.Keys.{below-itself, below-back, below-below, below-upto}
 
 -- the region begins at the cut or behind it
 abbrev After : Cut → Shape → Type 0

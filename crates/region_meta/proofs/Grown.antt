@@ -1,21 +1,21 @@
 -- The orders are kept by a split and a merge of regions.
-use Rattle.std.proofs.Common.{◌≡◌, ℕ, ◌+◌, ◌-◌, ◌<◌, ◌≤◌, max, Bool, true, false, List, [], ◌∷◌, ◌++◌, length, Option, Some, None, refl, ap, sym, ◌∙◌, subst, slice_get, set, arith, map, position, ◌⊎◌, ⊎_elim, inl, inr, zero, suc}
+use Rattle.std.proofs.Common.{◌≡◌, ℕ, ◌+◌, ◌<◌, ◌≤◌, max, true, List, [], ◌∷◌, ◌++◌, length, Option, Some, None, refl, ap, sym, ◌∙◌, subst, slice_get, set, arith, map, position, ◌⊎◌, ⊎_elim, zero, suc}
 use Rattle.std.specs.Prelude.{◌&&◌, not, codes, is_some}
 use Rattle.std.specs.Str.{bytes_eq}
-use Rattle.std.proofs.lemmas.Bool.{false≢true, true≢false, and_parts, both_ways}
+use Rattle.std.proofs.lemmas.Bool.{false≢true, and_parts, both_ways}
 use Rattle.std.proofs.lemmas.List.{map-set, map-append, length-map}
 use Rattle.std.proofs.lemmas.Option.{none-some, same_Some, slice_get_within}
 use Rattle.std.proofs.lemmas.Slice.Eq.{bytes_eq-Decides}
 use Rattle.rep_types.specs.Range.{key_below, is_below, begins_below}
 use Rattle.rep_types.specs.declared.state.PlaceOf.TheVariants as place
 use Rattle.region_meta.specs.declared.region.Region.{Region}
-use Rattle.region_meta.specs.Regions.{Table, is_named, is_off, is_gone}
+use Rattle.region_meta.specs.Regions.{Table, is_named, is_off}
 use Rattle.region_meta.specs.Refusals.{splits, low_below, is_adjacent, same_key}
 use Rattle.region_meta.specs.Changes.{moved, low_half, high_half, joined}
-use Rattle.region_meta.specs.Orders.{Shape, shape, IsKept, IsOrder, IsTile, put_halves, put_other, leave_out}
+use Rattle.region_meta.specs.Orders.{Shape, shape, IsKept, IsOrder, put_halves, put_other, leave_out}
 use Rattle.region_meta.proofs.Following.{member-some}
 use Rattle.region_meta.proofs.Keys.{below-below, below-itself}
-use Rattle.region_meta.proofs.Kept.{Retires, AreNew, one-new, grown-kept, retires-one, retires-two, split-order, merge-order}
+use Rattle.region_meta.proofs.Kept.{AreNew, one-new, grown-kept, retires-one, retires-two, split-order, merge-order}
 use Rattle.region_meta.proofs.Lookups.{position-at, Passes}
 use Rattle.region_meta.proofs.Refused.{not-gone}
 use Rattle.region_meta.proofs.Shapes.{shape-at}

@@ -1,15 +1,15 @@
 -- The region that the search finds is the one that holds the row.
-use Rattle.std.proofs.Common.{◌≡◌, ℕ, ◌+◌, ◌-◌, ◌<◌, ◌≤◌, ◌⊎◌, inl, inr, ⊎_elim, Bool, true, false, not, List, [], ◌∷◌, length, get_or, Option, Some, None, refl, ap, sym, ◌∙◌, subst, slice_get, arith, find, position, map, suc, cond, All}
-use Rattle.std.specs.Prelude.{◌&&◌, ◌↔◌, IsSome, IsNone, is_some, IsTrue}
+use Rattle.std.proofs.Common.{◌≡◌, ℕ, ◌+◌, ◌-◌, ◌<◌, ◌≤◌, ⊎_elim, Bool, true, false, not, List, [], ◌∷◌, length, get_or, Option, Some, None, refl, ap, sym, ◌∙◌, subst, slice_get, arith, find, position, map, suc, cond, All}
+use Rattle.std.specs.Prelude.{◌↔◌, IsNone, is_some, IsTrue}
 use Rattle.std.specs.Str.{bytes_eq}
 use Rattle.std.specs.Option.{option_map}
-use Rattle.std.proofs.lemmas.Bool.{both_ways, not-false, and_parts, and_from, not-true, not_from_false, true≢false, false≢true, cases_lt, eqb-true}
+use Rattle.std.proofs.lemmas.Bool.{not-false, and_parts, and_from, not-true, true≢false, false≢true, cases_lt, eqb-true}
 use Rattle.std.proofs.lemmas.Option.{none-some, same_Some, slice_get_within}
 use Rattle.std.proofs.lemmas.Slice.Eq.{bytes_eq-Decides}
 use Rattle.rep_types.specs.Range.{key_below, is_below, is_from}
 use Rattle.region_meta.specs.declared.region.Region.{Region}
 use Rattle.region_meta.specs.Regions.{Table, Map, given, if_some, serves, is_gone, is_named, is_region, region_of, table_of}
-use Rattle.region_meta.specs.Orders.{Shape, shape, IsOrder, IsKept, IsLastAt, IsHolder, begins_by, end_of, Follow}
+use Rattle.region_meta.specs.Orders.{Shape, shape, IsOrder, IsKept, IsLastAt, IsHolder, begins_by, Follow}
 use Rattle.region_meta.proofs.Following.{Seat, seat, begins_first, only-one, shape_holds}
 use Rattle.region_meta.proofs.Lookups.{find-only, find-none, position-found}
 use Rattle.region_meta.proofs.Shapes.{Shaped, shaped, shape-at, Numbered, numbered-regions, region-at}

@@ -1,12 +1,11 @@
 -- Items by their places: after a change, behind another list, and as the first that passes a test.
-use Rattle.std.proofs.Common.{◌≡◌, ℕ, ◌+◌, ◌<◌, ◌≤◌, ◌⊎◌, inl, inr, ⊎_elim, Bool, true, false, not, cond, List, [], ◌∷◌, ◌++◌, length, Option, Some, None, refl, ap, sym, ◌∙◌, subst, slice_get, set, arith, suc, zero, find, position, map}
+use Rattle.std.proofs.Common.{◌≡◌, ℕ, ◌+◌, ◌<◌, ◌⊎◌, inl, inr, ⊎_elim, Bool, true, false, not, cond, List, [], ◌∷◌, ◌++◌, length, Option, Some, None, refl, ap, sym, ◌∙◌, slice_get, set, arith, suc, zero, find, position, map}
 use Rattle.std.specs.List.{position_or_len}
 use Rattle.std.specs.Option.{option_map}
-use Rattle.std.specs.Prelude.{nat_lt, is_some, IsSome}
+use Rattle.std.specs.Prelude.{nat_lt, is_some}
 use Rattle.region_meta.specs.Changes.{replace}
-use Rattle.std.proofs.lemmas.Bool.{both_ways, false≢true, true≢false, cases_lt}
 use Rattle.std.proofs.lemmas.Bool.Decides.{nat_tests}
-use Rattle.std.proofs.lemmas.Option.{none-some, same_Some, slice_get_within, slice_get_past}
+use Rattle.std.proofs.lemmas.Option.{none-some, same_Some}
 
 pub set-other : {X : Type 0} (xs : List X) (p n : ℕ) (y : X) → (n ≡ p → ⊥) → slice_get (set xs p y) n ≡ slice_get xs n
 set-other [] p n y apart = refl

@@ -1,17 +1,17 @@
 -- What a split and a merge find, and what they leave, in the terms of their calls.
-use Rattle.std.proofs.Common.{◌≡◌, ℕ, ◌+◌, ◌-◌, ◌<◌, ◌≤◌, Bool, true, List, [], ◌∷◌, ◌++◌, length, Option, Some, None, refl, ap, sym, ◌∙◌, subst, slice_get, set, arith, map, position, find}
+use Rattle.std.proofs.Common.{◌≡◌, ℕ, ◌+◌, ◌-◌, ◌<◌, ◌≤◌, Bool, true, List, [], ◌∷◌, ◌++◌, length, Some, None, refl, ap, sym, ◌∙◌, subst, slice_get, set, arith, map, position, find}
 use Rattle.std.specs.Prelude.{is_some}
 use Rattle.std.proofs.lemmas.Bool.{true≢false}
 use Rattle.std.proofs.lemmas.List.{map-append, length-map}
-use Rattle.std.proofs.lemmas.Option.{none-some, same_Some, slice_get_within}
+use Rattle.std.proofs.lemmas.Option.{same_Some, slice_get_within}
 use Rattle.rep_types.specs.declared.table.Family.{Family}
 use Rattle.rep_types.specs.declared.state.PlaceOf.TheVariants as place
 use Rattle.region_meta.specs.declared.region.Region.{Region}
-use Rattle.region_meta.specs.Regions.{Map, Table, is_named, is_region, is_off}
+use Rattle.region_meta.specs.Regions.{Table, is_named, is_region, is_off}
 use Rattle.region_meta.specs.Refusals.{split_refusal, merge_refusal, splits, is_adjacent}
 use Rattle.region_meta.specs.Changes.{moved, new_table, first_region, low_half, high_half, joined}
 use Rattle.region_meta.specs.Orders.{shape, IsKept, put_halves, put_other, leave_out}
-use Rattle.region_meta.proofs.Shapes.{Numbered, numbered-regions, region-at, shape-at}
+use Rattle.region_meta.proofs.Shapes.{numbered-regions, region-at, shape-at}
 use Rattle.region_meta.proofs.Lookups.{position-at, Passes}
 use Rattle.region_meta.proofs.Refused.{MaySplit, may-split, MayMerge, may-merge, MayAdd}
 use Rattle.region_meta.proofs.Kept.{added-kept}

@@ -1,12 +1,12 @@
 -- Regions and their shapes, by their places and by their numbers.
-use Rattle.std.proofs.Common.{◌≡◌, ℕ, ◌+◌, ◌-◌, ◌<◌, ◌≤◌, Bool, true, false, List, [], ◌∷◌, ◌++◌, length, Option, Some, None, refl, ap, sym, ◌∙◌, subst, slice_get, set, arith, find, map, Bor}
+use Rattle.std.proofs.Common.{◌≡◌, ℕ, ◌+◌, ◌-◌, ◌≤◌, List, Option, Some, None, refl, ap, sym, ◌∙◌, slice_get, set, arith, find, map, Bor}
 use Rattle.std.specs.Option.{option_map, option_copied, IfSome}
 use Rattle.std.proofs.lemmas.Bool.{eqb-true, eq-eqb}
 use Rattle.std.proofs.lemmas.Option.{none-some, same_Some, slice_get-map}
 use Rattle.region_meta.specs.declared.region.Region.{Region}
 use Rattle.region_meta.specs.Regions.{is_region}
 use Rattle.region_meta.specs.Changes.{replace}
-use Rattle.region_meta.specs.Orders.{Shape, shape, spliced}
+use Rattle.region_meta.specs.Orders.{Shape, shape}
 use Rattle.region_meta.proofs.Lookups.{find-only, find-none, replace-only}
 
 pub shape-at : (rs : List Region) (n : ℕ) (r : Region) → slice_get rs n ≡ Some r → slice_get (map shape rs) n ≡ Some (shape r)

@@ -1,5 +1,5 @@
 -- What the calls make of the tables and regions.
-use Rattle.std.specs.Prelude.{ℕ, ◌+◌, ◌||◌, max, List, [], ◌∷◌, ◌++◌, Bool, Option, Some, None, if◌then◌else◌, length}
+use Rattle.std.specs.Prelude.{ℕ, ◌+◌, ◌||◌, max, List, [], ◌∷◌, ◌++◌, Bool, Some, None, if◌then◌else◌, length}
 use Rattle.rep_types.specs.declared.table.Family.{Family}
 use Rattle.rep_types.specs.declared.state.PlaceOf.{PlaceOf}
 use Rattle.rep_types.specs.declared.state.PlaceOf.TheVariants as place

@@ -1,4 +1,4 @@
-use Rattle.std.proofs.Common.{sym, ◌∷◌, [], ◌∙◌}
+use Rattle.std.proofs.Common.{◌∷◌, []}
 use Rattle.region_meta.proofs.Changing.{gone-two}
 use Rattle.region_meta.proofs.merge.put_whole.Goals as goal
 

@@ -1,10 +1,7 @@
-use Rattle.std.proofs.Common.{◌≡◌, ℕ, ◌+◌, ◌≤◌, ◌∷◌, ◌++◌, [], List, Option, None, Some, refl, sym, ap, ◌∙◌, subst, map, position, length, string_bytes, arith}
-use Rattle.std.proofs.lemmas.List.{map-append, length-map}
-use Rattle.region_meta.specs.declared.region.Region.{Region}
-use Rattle.region_meta.specs.Regions.{Map, Table, is_named}
+use Rattle.std.proofs.Common.{◌≡◌, None, sym, subst, position, string_bytes}
+use Rattle.region_meta.specs.Regions.{Map, is_named}
 use Rattle.region_meta.specs.Refusals.{table_refusal}
-use Rattle.region_meta.specs.Changes.{new_table, first_region}
-use Rattle.region_meta.specs.Orders.{listed, shape, Shape, IsKept}
+use Rattle.region_meta.specs.Orders.{listed}
 use Rattle.region_meta.proofs.Refused.{may-add, MayAdd, none-refused}
 use Rattle.region_meta.proofs.Tables.{not-placed}
 use Rattle.region_meta.proofs.Made.{table-made}

@@ -1,5 +1,4 @@
-use Rattle.std.proofs.Common.{◌≡◌, ◌+◌, ◌-◌, sym, ap, ◌∙◌, arith, Option, Some, None, slice_get, subst, IfSome}
-use Rattle.std.specs.Option.{option_copied}
+use Rattle.std.proofs.Common.{◌≡◌, ◌+◌, ◌-◌, sym, ap, ◌∙◌, arith, slice_get}
 use Rattle.region_meta.proofs.Shapes.{region-at, numbered-regions, copied}
 use Rattle.region_meta.proofs.map.RegionMap.region.Goals as goal
 

@@ -1,9 +1,9 @@
-use Rattle.std.proofs.Common.{◌≡◌, ◌-◌, List, sym, ap, ◌∙◌, subst, find, map, slice_get}
+use Rattle.std.proofs.Common.{◌-◌, List, sym, subst, find}
 use Rattle.std.specs.Prelude.{IsSome}
 use Rattle.region_meta.specs.Regions.{Map, is_region, region_of}
-use Rattle.region_meta.specs.Orders.{Shape, listed, shape, IsKept}
+use Rattle.region_meta.specs.Orders.{Shape, listed, IsKept}
 use Rattle.region_meta.proofs.Shapes.{numbered-regions}
-use Rattle.region_meta.proofs.Changing.{some-within, placed-shapes, placed-is, split-is}
+use Rattle.region_meta.proofs.Changing.{some-within, placed-shapes, placed-is}
 use Rattle.region_meta.proofs.map.RegionMap.set_place.Goals as goal
 
 pub at_mut-region-requires : goal.at_mut-region-requires

@@ -1,4 +1,4 @@
-use Rattle.std.proofs.Common.{◌≡◌, ℕ, ◌+◌, ◌-◌, ◌++◌, ◌∷◌, [], List, Option, None, Some, sym, ap, ◌∙◌, subst, map, set, position, slice_get, length}
+use Rattle.std.proofs.Common.{◌≡◌, ◌+◌, ◌-◌, ◌++◌, ◌∷◌, [], List, None, sym, ap, ◌∙◌, subst, map, set, position, length}
 use Rattle.std.proofs.lemmas.Option.{none-some}
 use Rattle.rep_types.specs.declared.state.PlaceOf.TheVariants as place
 use Rattle.region_meta.specs.declared.region.Region.{Region}

@@ -1,6 +1,5 @@
-use Rattle.std.proofs.Common.{◌≡◌, sym, ap, ◌∙◌, position}
+use Rattle.std.proofs.Common.{sym, ap, ◌∙◌}
 use Rattle.std.specs.Prelude.{is_some}
-use Rattle.std.specs.Str.{bytes_eq}
 use Rattle.region_meta.specs.Regions.{is_named}
 use Rattle.region_meta.specs.Orders.{listed}
 use Rattle.region_meta.proofs.Lookups.{position-found}
