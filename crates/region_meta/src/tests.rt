@@ -46,3 +46,26 @@ fn halves_are_located_and_merged_again(rt: HostRuntime) -> Result<(), Fail> {
     assert_eq!(rt; located(alloc, &map, "m")?, 4);
     Ok(())
 }
+
+// The region's place after it was set.
+fn placed(map: &mut RegionMap, region: RegionId, place: PlaceOf) -> Option<PlaceOf> {
+    if map.place(region).is_some() {
+        map.set_place(region, place);
+    }
+    map.place(region)
+}
+
+#[test]
+fn places_are_set_and_refusals_known(rt: HostRuntime) -> Result<(), Fail> {
+    let alloc = rt.alloc();
+    let mut map = RegionMap::new(alloc)?;
+    let one = id(1)?;
+    let made = map.add_table(alloc, Name::new(alloc, "t")?, families(alloc)?);
+    assert_eq!(rt; number(made), 1);
+    let on = PlaceOf::On(ServerId::new(7).ok_or("no server")?);
+    assert!(rt; placed(&mut map, one, on) == Some(on));
+    assert!(rt; placed(&mut map, one, PlaceOf::Gone) == Some(on));
+    assert!(rt; map.may_split(one, &Key::new(alloc, "m")?, true).is_err());
+    assert!(rt; map.may_merge(one, one, true).is_err());
+    Ok(())
+}
