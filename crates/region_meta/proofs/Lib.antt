@@ -1,0 +1,12 @@
+pub mod Changing
+pub mod Following
+pub mod Grown
+pub mod Kept
+pub mod Keys
+pub mod Lists
+pub mod Located
+pub mod Lookups
+pub mod Made
+pub mod Refused
+pub mod Shapes
+pub mod Tables

@@ -1,0 +1,4 @@
+pub mod Changes
+pub mod Orders
+pub mod Refusals
+pub mod Regions
