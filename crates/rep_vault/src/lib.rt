@@ -1,0 +1,9 @@
+//! A store of files and records, whose calls may fail, and such a store in memory. The rules are this project's own.
+#![tactic(auto)]
+
+mod kind;
+mod store;
+mod vault;
+
+pub use store::{Change, VaultError};
+pub use vault::{Outcome, Vault};
