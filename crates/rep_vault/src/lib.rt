@@ -2,6 +2,7 @@
 #![tactic(auto)]
 
 mod kind;
+mod plans;
 mod store;
 mod vault;
 
