@@ -1,5 +1,5 @@
 -- The plans and faults of all kinds of calls.
-use Rattle.std.specs.Prelude.{ℕ, ◌≡◌, ◌+◌, ◌≤◌, ◌==◌, Bool, false, Option, Some, if◌then◌else◌}
+use Rattle.std.specs.Prelude.{ℕ, ◌≡◌, ◌+◌, ◌≤◌, ◌==◌, Bool, true, false, Option, Some, None, IsSome, Result, Ok, Err, if◌then◌else◌}
 use Rattle.std.specs.Borrow.{Lends, MutBor, Fml}
 use Rattle.rep_types.specs.declared.state.Call.{Call}
 use Rattle.rep_types.specs.declared.state.Call.TheVariants as call
@@ -7,6 +7,8 @@ use Rattle.rep_vault.specs.declared.kind.Kind.{Kind}
 use Rattle.rep_vault.specs.contracts.kind.Kind as kind
 use Rattle.rep_vault.specs.declared.plans.Plans.{Plans}
 use Rattle.rep_vault.specs.contracts.plans.Plans as plans
+use Rattle.rep_vault.specs.declared.store.VaultError.{VaultError}
+use Rattle.rep_vault.specs.declared.store.VaultError.TheVariants.{Failed, Gone, Sealed, Exists, Memory}
 use Rattle.rep_vault.specs.Tallies.{number, total}
 use Rattle.rep_vault.specs.Kinds.{ahead, Passed, Planned, Unchanged}
 
@@ -59,7 +61,22 @@ planned_of p = total (λ k. (of_kind k p).planned)
 pub record PassesOne (k : Call) (old new : Plans) : Type 0 where
   pub here : Passed (of_kind k old) (of_kind k new)
   pub others : (j : Call) → same j k ≡ false → of_kind j new ≡ of_kind j old
+  pub kept : (j : Call) → faults_of old j ≤ faults_of new j
   pub planned : planned_of new ≡ planned_of old
+
+-- a call of that kind is to fail and was made, or isn't to fail and wasn't made
+abbrev pub Strikes : Call → Plans → Plans → Bool → Type 0
+Strikes k old new true = IsSome (ahead (of_kind k old) 1) × PassesOne k old new
+Strikes k old new false = (ahead (of_kind k old) 1 ≡ None) × (new ≡ old)
+
+-- a call of that kind with this result: it fails exactly where that is due, and a refused one isn't counted
+abbrev pub Runs : {T : Type 0} → Call → Plans → Plans → Result T VaultError → Type 0
+Runs k old new (Ok _) = (ahead (of_kind k old) 1 ≡ None) × PassesOne k old new
+Runs k old new (Err Failed) = IsSome (ahead (of_kind k old) 1) × PassesOne k old new
+Runs k old new (Err Gone) = new ≡ old
+Runs k old new (Err Exists) = new ≡ old
+Runs k old new (Err Sealed) = new ≡ old
+Runs k old new (Err Memory) = new ≡ old
 
 -- the nth next call of that kind is to fail
 pub record PlansAt (k : Call) (nth bytes : ℕ) (old new : Plans) : Type 0 where

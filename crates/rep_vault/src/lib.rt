@@ -1,7 +1,10 @@
 //! A store of files and records, whose calls may fail, and such a store in memory. The rules are this project's own.
 #![tactic(auto)]
 
+mod file;
+mod folder;
 mod kind;
+mod memory;
 mod plans;
 mod store;
 mod vault;

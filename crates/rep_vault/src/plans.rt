@@ -3,7 +3,7 @@ ghost use Rattle.std.specs.Borrow.{sem};
 ghost use Rattle.rep_types.specs.declared.state.Call.{Call};
 ghost use Rattle.rep_vault.specs.Tallies.{total};
 ghost use Rattle.rep_vault.specs.Kinds.{ahead, Unchanged};
-ghost use Rattle.rep_vault.specs.Plans.{of_kind, faults_of, planned_of, LendsKind, PassesOne, PlansAt, AreUnchanged};
+ghost use Rattle.rep_vault.specs.Plans.{of_kind, faults_of, planned_of, LendsKind, PassesOne, Strikes, PlansAt, AreUnchanged};
 
 use crate::kind::Kind;
 use rep_types::{Call, Memory};
@@ -91,6 +91,17 @@ impl Plans {
         ensures { PassesOne call self.old self.new }
     {
         self.of_mut(call).pass();
+    }
+
+    /// Whether the next call of that kind is to fail. If so it is counted as made.
+    pub fn strikes(&mut self, call: Call) -> bool
+        ensures { Strikes call self.old self.new result }
+    {
+        let due = self.due(call).is_some();
+        if due {
+            self.pass(call);
+        }
+        due
     }
 
     pub fn plan(&mut self, call: Call, nth: u32, bytes: u32) -> Result<(), Memory>
