@@ -11,17 +11,8 @@ use Rattle.rep_vault.specs.declared.memory.MemVault.{MemVault}
 use Rattle.rep_vault.specs.Tallies.{Counted, Tally, IsBounded, total}
 use Rattle.rep_vault.specs.Kinds.{ahead}
 use Rattle.rep_vault.specs.Plans.{Runs, PassesOne, of_kind, faults_of, planned_of}
+use Rattle.rep_vault.specs.Laws.{fit}
 use Rattle.rep_vault.specs.Memory.{tally_of, ahead_of, Uses, Follows}
-
-pub few : (p : Plans) → total (faults_of p) ≤ planned_of p
-few p = omega arith
-
-pub fit : (p : Plans) → total (faults_of p) < 2 ^ 36
-fit p = omega arith
-
-pub bounded : (v : MemVault) → IsBounded (tally_of v)
-unfolding tally_of
-bounded v = record { fits = omega (arith, fit v.plans); planned = few v.plans }
 
 one_more : (k : Call) (old new : Plans) → PassesOne k old new → IsSome (ahead (of_kind k old) 1) → faults_of old k < faults_of new k
 one_more k old new passes due = grind (arith, passes.here.faults)

@@ -1,5 +1,5 @@
 -- Folders, files and records in maps.
-use Rattle.std.specs.Prelude.{ℕ, ◌≡◌, Bool, true, false, List, Option, Some, None, is_some, String, Result, Ok, Err, if◌then◌else◌}
+use Rattle.std.specs.Prelude.{ℕ, ◌≡◌, ◌<◌, Bool, true, false, List, length, Option, Some, None, is_some, get_or, String, Result, Ok, Err, if◌then◌else◌}
 use Rattle.std.specs.Str.{bytes_eq}
 use Rattle.std.specs.Option.{option_map}
 use Rattle.std.specs.Global.{Global}
@@ -8,7 +8,8 @@ use Rattle.rep_vault.specs.declared.folder.Folder.{Folder}
 use Rattle.rep_vault.specs.declared.file.MemFile.{MemFile}
 use Rattle.rep_vault.specs.declared.store.VaultError.{VaultError}
 use Rattle.rep_vault.specs.declared.store.VaultError.TheVariants.{Failed, Gone, Sealed, Exists, Memory}
-use Rattle.rep_vault.specs.Contents.{File, empty_file}
+use Rattle.rep_vault.specs.declared.store.Change.{Change}
+use Rattle.rep_vault.specs.Contents.{File, empty_file, changed}
 use Rattle.rep_vault.specs.Stored.{shown}
 
 abbrev pub Folders : Type 0
@@ -75,3 +76,19 @@ pub record AddsFolder (f : List ℕ) (old new : Folders) : Type 0 where
 pub record MovesFolder (f to : List ℕ) (old new : Folders) : Type 0 where
   pub stands : (g : List ℕ) → stands_in new g ≡ (if bytes_eq to g then true else (if bytes_eq f g then false else stands_in old g))
   pub files : (g q : List ℕ) → file_in new g q ≡ (if bytes_eq to g then file_in old f q else (if bytes_eq f g then None else file_in old g q))
+
+-- the records stay
+pub record KeepsRecords (old new : Records) : Type 0 where
+  pub each : (k : List ℕ) → record_in new k ≡ record_in old k
+
+-- a key that had a place has one
+pub record KeepsSlots (old new : Records) : Type 0 where
+  pub each : (k : List ℕ) → is_some (get_by_text old k) ≡ true → is_some (get_by_text new k) ≡ true
+
+-- there is a place for each change
+pub record HasSlots (cs : List Change) (m : Records) : Type 0 where
+  pub each : (j : ℕ) (d : Change) → j < length cs → is_some (get_by_text m (get_or cs j d).key) ≡ true
+
+-- the changes are made in order
+pub record MakesChanges (cs : List Change) (old new : Records) : Type 0 where
+  pub each : (k : List ℕ) → record_in new k ≡ changed cs (record_in old) k

@@ -2,6 +2,7 @@ pub mod Calls
 pub mod Contents
 pub mod Folders
 pub mod Kinds
+pub mod Laws
 pub mod Memory
 pub mod Plans
 pub mod Stored

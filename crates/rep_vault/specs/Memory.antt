@@ -1,17 +1,15 @@
 -- A store in memory: what it holds, and what is planned.
-use Rattle.std.specs.Prelude.{ℕ, ◌≡◌, ◌+◌, ◌≤◌, Bool, true, false, List, [], ◌∷◌, Option, Some, None, is_some, IsSome, Result, Ok, Err, if◌then◌else◌}
-use Rattle.std.specs.Option.{option_map}
-use Rattle.std.specs.BTreeMap.{BTreeMap, get_by_text}
+use Rattle.std.specs.Prelude.{ℕ, ◌≡◌, ◌+◌, ◌≤◌, ◌==◌, false, List, take, Option, Some, IsSome, Result, Ok, Err, if◌then◌else◌}
 use Rattle.rep_types.specs.declared.state.Call.{Call}
 use Rattle.rep_vault.specs.declared.store.VaultError.{VaultError}
 use Rattle.rep_vault.specs.declared.store.VaultError.TheVariants.{Failed, Gone, Sealed, Exists, Memory}
-use Rattle.rep_vault.specs.declared.folder.Folder.{Folder}
 use Rattle.rep_vault.specs.declared.memory.MemVault.{MemVault}
-use Rattle.rep_vault.specs.Contents.{File, Contents}
+use Rattle.rep_vault.specs.Contents.{File, Contents, with_file}
 use Rattle.rep_vault.specs.Tallies.{Tally}
 use Rattle.rep_vault.specs.Kinds.{ahead}
 use Rattle.rep_vault.specs.Plans.{of_kind, same, faults_of, planned_of}
-use Rattle.rep_vault.specs.Stored.{shown}
+use Rattle.rep_vault.specs.Calls.{longer}
+use Rattle.rep_vault.specs.Stored.{kept_length, keep_after}
 use Rattle.rep_vault.specs.Folders.{stands_in, file_in, record_in}
 
 unfoldable pub contents_of : MemVault → Contents
@@ -41,3 +39,27 @@ Follows k old new (Err Gone) = new ≡ old
 Follows k old new (Err Exists) = new ≡ old
 Follows k old new (Err Sealed) = new ≡ old
 Follows k old new (Err Memory) = new ≡ old
+
+-- a failing append leaves so many bytes of its piece, or all of it where it is shorter
+abbrev pub AppendsFirst : {T : Type 0} → List ℕ → List ℕ → List ℕ → Option ℕ → Contents → Contents → Result T VaultError → Type 0
+AppendsFirst f n piece due old new (Err Failed) = (x : File) × (most : ℕ) × (due ≡ Some most) × (old.files f n ≡ Some x) × (new ≡ with_file f n (longer (take most piece) x) old)
+AppendsFirst f n piece due old new (Ok _) = Unit {0}
+AppendsFirst f n piece due old new (Err Gone) = Unit {0}
+AppendsFirst f n piece due old new (Err Exists) = Unit {0}
+AppendsFirst f n piece due old new (Err Sealed) = Unit {0}
+AppendsFirst f n piece due old new (Err Memory) = Unit {0}
+
+-- The length at which a file is sealed: with what is to be kept of the unsynced tail, if it wasn't sealed. That plan is then
+-- used up, and else it stays.
+abbrev pub SealsAt : List ℕ → List ℕ → Contents → Option ℕ → Option ℕ → Result ℕ VaultError → Type 0
+SealsAt f n c keep left (Ok len) = (x : File) × (c.files f n ≡ Some x) × (len ≡ kept_length keep x) × (left ≡ keep_after keep x)
+SealsAt f n c keep left (Err Failed) = left ≡ keep
+SealsAt f n c keep left (Err Gone) = left ≡ keep
+SealsAt f n c keep left (Err Exists) = left ≡ keep
+SealsAt f n c keep left (Err Sealed) = left ≡ keep
+SealsAt f n c keep left (Err Memory) = left ≡ keep
+
+-- the nth next call of that kind is to fail and leave so many bytes, and all else is as planned before
+pub record PlansAhead (k : Call) (nth bytes : ℕ) (old new : Call → ℕ → Option ℕ) : Type 0 where
+  pub here : (n : ℕ) → new k n ≡ (if n == nth then Some bytes else old k n)
+  pub others : (j : Call) (n : ℕ) → same j k ≡ false → new j n ≡ old j n

@@ -6,6 +6,7 @@ mod folder;
 mod kind;
 mod memory;
 mod plans;
+mod records;
 mod store;
 mod vault;
 
