@@ -2,7 +2,8 @@
 use Rattle.std.proofs.Common.{◌≡◌, ℕ, Bool, ◌||◌, true, false, cond, List, [], ◌∷◌, ◌++◌, map, Option, Some, None, refl, ap, sym, ◌∙◌, subst, true≢false, string_bytes, is_some, rules, arith}
 use Rattle.std.specs.Prelude.{String, IsSome}
 use Rattle.std.specs.Global.{Global}
-use Rattle.std.specs.Option.{option_map}
+use Rattle.std.specs.Option.{option_map, option_copied_mut}
+use Rattle.std.specs.Borrow.{MutBor}
 use Rattle.std.specs.Str.{bytes_eq}
 use Rattle.std.specs.String.{string_cmp}
 use Rattle.std.specs.Ordering.{nat_cmp, is_eq}
@@ -21,10 +22,8 @@ use Rattle.rep_vault.specs.Contents.{File}
 use Rattle.rep_vault.specs.Calls.{AreNames}
 use Rattle.rep_vault.specs.Stored.{shown}
 use Rattle.rep_vault.specs.Laws.{none}
+use Rattle.rep_vault.proofs.Frames.{same_text}
 use Rattle.rep_vault.specs.Folders.{Folders, Files, file_of, file_at, file_in, stands_in, SetsFile, KeepsFiles, AddsFolder, MovesFolder}
-
-pub same_text : (xs : List ℕ) → bytes_eq xs xs ≡ true
-same_text xs = (bytes_eq-Decides xs xs).1 refl
 
 -- the map has w at that text, and what it had at the others
 pub record PutsAt {X : Type 0} (n : List ℕ) (w : Option X) (m m' : BTreeMap (String Global) X) : Type 0 where
@@ -35,6 +34,13 @@ puts_at n w m m' u = record { at = λ q. btree_map_updates_text n m m' w u q }
 
 pub puts_key : {X : Type 0} (n : List ℕ) (k : String Global) (w : Option X) (m m' : BTreeMap (String Global) X) → string_bytes k ≡ n → UpdatesBy string_cmp (λ j. slice_cmp nat_cmp (string_bytes k) (string_bytes j)) m m' w → PutsAt n w m m'
 puts_key n k w m m' e u = subst (λ z. PutsAt z w m m') e (puts_at (string_bytes k) w m m' u)
+
+-- what `get_mut` lends is the value of the key
+pub lent : {X : Type 0} (n : List ℕ) (m : BTreeMap (String Global) X) (o : Option (MutBor X)) (x : MutBor X) → o ≡ Some x → option_copied_mut o ≡ get_by_text m n → get_by_text m n ≡ Some x.now
+lent n m o x is e = sym e ∙ ap option_copied_mut is
+
+pub lent_none : {X : Type 0} (n : List ℕ) (m : BTreeMap (String Global) X) (o : Option (MutBor X)) → o ≡ None → option_copied_mut o ≡ get_by_text m n → get_by_text m n ≡ None
+lent_none n m o is e = sym e ∙ ap option_copied_mut is
 
 here : {X : Type 0} (n : List ℕ) (w : Option X) (m m' : BTreeMap (String Global) X) → PutsAt n w m m' → get_by_text m' n ≡ w
 here n w m m' p = p.at n ∙ cond-true _ _ _ (same_text n)

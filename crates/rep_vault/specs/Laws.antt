@@ -12,7 +12,7 @@ use Rattle.rep_vault.specs.Tallies.{IsBounded, total}
 use Rattle.rep_vault.specs.Plans.{faults_of, planned_of}
 use Rattle.rep_vault.specs.Stored.{shown}
 use Rattle.rep_vault.specs.Folders.{file_at}
-use Rattle.rep_vault.specs.Memory.{contents_of, tally_of}
+use Rattle.rep_vault.specs.Memory.{contents_of, contents_in, tally_of, tally_in}
 
 pub none : {X : Type 0} (o : Option X) → is_some o ≡ false → o ≡ None
 none None e = refl
@@ -27,7 +27,7 @@ found None n x e = cc
 found (Some d) n x e = stored (get_by_text d.files n) x e
 
 pub sound : (v : MemVault) → IsSound (contents_of v)
-unfolding contents_of
+unfolding contents_in
 sound v = record {
   housed = λ f n gone. ap (λ o. file_at o n) (none (get_by_text v.folders f) gone);
   synced = λ f n x e. found (get_by_text v.folders f) n x e
@@ -40,5 +40,5 @@ pub fit : (p : Plans) → total (faults_of p) < 2 ^ 36
 fit p = omega arith
 
 pub bounded : (v : MemVault) → IsBounded (tally_of v)
-unfolding tally_of
+unfolding tally_in
 bounded v = record { fits = omega (arith, fit v.plans); planned = few v.plans }

@@ -1,8 +1,9 @@
 -- A store in memory: what it holds, and what is planned.
-use Rattle.std.specs.Prelude.{ℕ, ◌≡◌, ◌+◌, ◌≤◌, ◌==◌, false, List, take, Option, Some, IsSome, Result, Ok, Err, if◌then◌else◌}
+use Rattle.std.specs.Prelude.{ℕ, ◌≡◌, ◌+◌, ◌≤◌, ◌==◌, false, List, take, Option, Some, None, IsSome, Result, Ok, Err, if◌then◌else◌}
 use Rattle.rep_types.specs.declared.state.Call.{Call}
 use Rattle.rep_vault.specs.declared.store.VaultError.{VaultError}
 use Rattle.rep_vault.specs.declared.store.VaultError.TheVariants.{Failed, Gone, Sealed, Exists, Memory}
+use Rattle.rep_vault.specs.declared.plans.Plans.{Plans}
 use Rattle.rep_vault.specs.declared.memory.MemVault.{MemVault}
 use Rattle.rep_vault.specs.Contents.{File, Contents, with_file}
 use Rattle.rep_vault.specs.Tallies.{Tally}
@@ -10,20 +11,31 @@ use Rattle.rep_vault.specs.Kinds.{ahead}
 use Rattle.rep_vault.specs.Plans.{of_kind, same, faults_of, planned_of}
 use Rattle.rep_vault.specs.Calls.{longer}
 use Rattle.rep_vault.specs.Stored.{kept_length, keep_after}
-use Rattle.rep_vault.specs.Folders.{stands_in, file_in, record_in}
+use Rattle.rep_vault.specs.Folders.{Folders, Records, stands_in, file_in, record_in}
 
-unfoldable pub contents_of : MemVault → Contents
-contents_of v = record { stands = stands_in v.folders; files = file_in v.folders; records = record_in v.records }
+-- what maps hold
+unfoldable pub contents_in : Folders → Records → Contents
+contents_in folders records = record { stands = stands_in folders; files = file_in folders; records = record_in records }
 
-unfoldable pub tally_of : MemVault → Tally
-tally_of v = record { faults = faults_of v.plans; planned = Some (planned_of v.plans) }
+abbrev pub contents_of : MemVault → Contents
+contents_of v = contents_in v.folders v.records
+
+-- what is counted
+unfoldable pub tally_in : Plans → Tally
+tally_in p = record { faults = faults_of p; planned = Some (planned_of p) }
+
+abbrev pub tally_of : MemVault → Tally
+tally_of v = tally_in v.plans
 
 -- how many bytes the nth next call of a kind leaves, if it is to fail
-unfoldable pub ahead_of : MemVault → Call → ℕ → Option ℕ
-ahead_of v k n = ahead (of_kind k v.plans) n
+unfoldable pub ahead_in : Plans → Call → ℕ → Option ℕ
+ahead_in p k n = ahead (of_kind k p) n
+
+abbrev pub ahead_of : MemVault → Call → ℕ → Option ℕ
+ahead_of v = ahead_in v.plans
 
 -- how many bytes of the tail the next seal of an unsealed file keeps
-unfoldable pub keep_of : MemVault → Option ℕ
+abbrev pub keep_of : MemVault → Option ℕ
 keep_of v = v.keep
 
 -- a call of that kind is made: what was planned for the next but one is planned for the next
