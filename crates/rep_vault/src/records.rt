@@ -58,7 +58,8 @@ fn make_slot(alloc: Global, records: &mut Records, key: &str) -> Result<(), Memo
     if records.contains_key(key) {
         return Ok(());
     }
-    records.insert(String::from_str(alloc, key)?, None)?;
+    let name = String::from_str(alloc, key)?;
+    records.insert(name, None)?;
     Ok(())
 }
 
@@ -96,13 +97,20 @@ fn is_free(records: &Records, key: &str) -> bool
     }
 }
 
+fn drop_one(records: &mut Records, key: &str)
+    ensures { KeepsRecords records.old records.new }
+{
+    if !is_free(records, key) {
+        return;
+    }
+    records.remove(key);
+}
+
 fn drop_free(records: &mut Records, changes: &[Change])
     ensures { KeepsRecords records.old records.new }
 {
     for change in changes {
-        if is_free(records, change.key.as_str()) {
-            records.remove(change.key.as_str());
-        }
+        drop_one(records, change.key.as_str());
     }
 }
 
