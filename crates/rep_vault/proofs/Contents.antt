@@ -1,9 +1,13 @@
 -- What a change of the maps is a change of the contents.
-use Rattle.std.proofs.Common.{◌≡◌, ℕ, Bool, true, false, ◌&&◌, cond, List, [], ◌∷◌, Option, Some, None, Result, Ok, Err, refl, ap, sym, ◌∙◌, subst, true≢false, is_some, take}
+use Rattle.std.proofs.Common.{◌≡◌, ℕ, Bool, true, false, ◌&&◌, cond, List, [], ◌∷◌, Option, Some, None, Result, Ok, Err, refl, ap, sym, ◌∙◌, subst, true≢false, is_some, take, string_bytes, codes, ◌||◌}
 use Rattle.std.specs.Global.{Global}
-use Rattle.std.specs.Option.{option_map}
+use Rattle.std.specs.Option.{option_map, option_copied}
+use Rattle.std.specs.Borrow.{Bor}
+use Rattle.std.specs.Map.{lookup}
+use Rattle.std.specs.Ordering.{nat_cmp}
+use Rattle.std.specs.Cmp.Lexicographic.{slice_cmp}
 use Rattle.std.specs.Str.{bytes_eq}
-use Rattle.std.specs.BTreeMap.{BTreeMap, get_by_text, IsUnchanged}
+use Rattle.std.specs.BTreeMap.{BTreeMap, get_by_text, is_at, IsUnchanged}
 use Rattle.std.proofs.lemmas.Slice.Eq.{bytes_eq-Decides}
 use Rattle.rep_vault.specs.declared.store.VaultError.{VaultError}
 use Rattle.rep_vault.specs.declared.store.VaultError.TheVariants.{Failed, Gone, Sealed, Exists, Memory}
@@ -12,9 +16,9 @@ use Rattle.rep_vault.specs.declared.folder.Folder.{Folder}
 use Rattle.rep_vault.specs.declared.file.MemFile.{MemFile}
 use Rattle.rep_vault.specs.declared.memory.MemVault.{MemVault}
 use Rattle.rep_vault.specs.Contents.{File, empty_file, Contents, set_file, with_folder, renamed, with_records, changed, new_contents}
-use Rattle.rep_vault.specs.Calls.{IsOpen, IsShut, IsFree, IsKept, MayRename, longer, Creates, Appends, Syncs, Seals, Removes, Makes, Renames, Puts}
+use Rattle.rep_vault.specs.Calls.{AreNames, IsOpen, IsShut, IsFree, IsKept, MayRename, longer, Creates, Appends, Syncs, Seals, Removes, Makes, Renames, Puts}
 use Rattle.rep_vault.specs.Stored.{shown, AppendsTo, SyncsIt, SealsIt}
-use Rattle.rep_vault.specs.Folders.{Folders, Records, file_of, file_at, file_in, stands_in, record_in, SetsFile, KeepsFiles, CreatesIn, RemovesIn, AddsFolder, MovesFolder, KeepsRecords, MakesChanges}
+use Rattle.rep_vault.specs.Folders.{Folders, Records, file_of, file_at, file_in, stands_in, record_at, record_in, SetsFile, KeepsFiles, CreatesIn, RemovesIn, AddsFolder, MovesFolder, KeepsRecords, MakesChanges}
 use Rattle.rep_vault.specs.Memory.{contents_in, AppendsFirst, SealsAt}
 use Rattle.rep_vault.proofs.Maps.{PutsAt, sets_file}
 
@@ -109,3 +113,79 @@ removes f n m m' r d d' (Err Failed) there p does =
     (λ e. present (file_of d n) does.0 (sym (file_there f n m r d there) ∙ e), keep_contents m m' r (keeps f m m' d d' there p does.1))
 removes f n m m' r d d' (Err Memory) there p does =
     (λ e. present (file_of d n) does.0 (sym (file_there f n m r d there) ∙ e), keep_contents m m' r (keeps f m m' d d' there p does.1))
+
+-- ---- what calls of all folders find
+pub found_file : (f n : List ℕ) (m : Folders) (r : Records) (o : Option (Bor MemFile)) (x : Bor MemFile) → o ≡ Some x → option_map shown (option_copied o) ≡ file_in m f n → (contents_in m r).files f n ≡ Some (shown x.now)
+unfolding contents_in
+found_file f n m r o x is e = sym e ∙ ap (λ p. option_map shown (option_copied p)) is
+
+pub found_no_file : (f n : List ℕ) (m : Folders) (r : Records) (o : Option (Bor MemFile)) → o ≡ None → option_map shown (option_copied o) ≡ file_in m f n → (contents_in m r).files f n ≡ None
+unfolding contents_in
+found_no_file f n m r o is e = sym e ∙ ap (λ p. option_map shown (option_copied p)) is
+
+pub not_none : {X : Type 0} (o : Option X) (x : X) → o ≡ Some x → o ≡ None → ⊥
+not_none o x some none = true≢false (sym (ap is_some some) ∙ ap is_some none)
+
+pub stands_as : (f : List ℕ) (m : Folders) (r : Records) (b x : Bool) → b ≡ is_some (get_by_text m f) → b ≡ x → (contents_in m r).stands f ≡ x
+unfolding contents_in
+stands_as f m r b x p e = sym p ∙ e
+
+pub got_folder : (f : List ℕ) (m : Folders) (o : Option (Bor Folder)) (x : Bor Folder) → o ≡ Some x → option_copied o ≡ get_by_text m f → get_by_text m f ≡ Some x.now
+got_folder f m o x is e = sym e ∙ ap option_copied is
+
+pub got_no_folder : (f : List ℕ) (m : Folders) (o : Option (Bor Folder)) → o ≡ None → option_copied o ≡ get_by_text m f → get_by_text m f ≡ None
+got_no_folder f m o is e = sym e ∙ ap option_copied is
+
+pub names_there : (f : List ℕ) (m : Folders) (r : Records) (d : Folder) (names : List (List ℕ)) → get_by_text m f ≡ Some d → AreNames (file_of d) names → AreNames ((contents_in m r).files f) names
+unfolding contents_in
+names_there f m r d names there are = let same : file_of d ≡ file_in m f = sym (ap (λ o n. file_at o n) there) in subst (λ files. AreNames files names) same are
+
+-- ---- folders
+pub unchanged : (m m' : Folders) (r : Records) → IsUnchanged m m' → contents_in m' r ≡ contents_in m r
+unchanged m m' r e = keep_contents m m' r (record {
+  stands = λ g. ap (λ es. is_some (lookup (is_at (λ k. slice_cmp nat_cmp g (string_bytes k))) es)) e;
+  files = λ g q. ap (λ es. file_at (lookup (is_at (λ k. slice_cmp nat_cmp g (string_bytes k))) es) q) e
+})
+
+pub added : (f : List ℕ) (m m' : Folders) (r : Records) → AddsFolder f m m' → contents_in m' r ≡ with_folder f (contents_in m r)
+unfolding contents_in with_folder
+added f m m' r s i = record { stands = λ g. s.stands g i; files = λ g q. s.files g q i; records = record_in r }
+
+pub moved : (f to : List ℕ) (m m' : Folders) (r : Records) → MovesFolder f to m m' → contents_in m' r ≡ renamed f to (contents_in m r)
+unfolding contents_in renamed
+moved f to m m' r s i = record { stands = λ g. s.stands g i; files = λ g q. s.files g q i; records = record_in r }
+
+-- ---- records
+pub records_kept : (m : Folders) (r r' : Records) → KeepsRecords r r' → contents_in m r' ≡ contents_in m r
+unfolding contents_in
+records_kept m r r' s i = record { stands = stands_in m; files = file_in m; records = λ k. s.each k i }
+
+pub records_made : (cs : List Change) (m : Folders) (r r' : Records) → MakesChanges cs r r' → contents_in m r' ≡ with_records cs (contents_in m r)
+unfolding contents_in with_records
+records_made cs m r r' s i = record { stands = stands_in m; files = file_in m; records = λ k. s.each k i }
+
+pub found_record : (k : List ℕ) (m : Folders) (r : Records) (o : Option (Bor (List ℕ))) (x : Bor (List ℕ)) → o ≡ Some x → option_copied o ≡ record_in r k → (contents_in m r).records k ≡ Some x.now
+unfolding contents_in
+found_record k m r o x is e = sym e ∙ ap option_copied is
+
+pub found_no_record : (k : List ℕ) (m : Folders) (r : Records) (o : Option (Bor (List ℕ))) → o ≡ None → option_copied o ≡ record_in r k → (contents_in m r).records k ≡ None
+unfolding contents_in
+found_no_record k m r o is e = sym e ∙ ap option_copied is
+
+-- ---- a new store
+either : (b c x : Bool) → x ≡ false → cond c true (cond b true x) ≡ (b || c)
+either true true x e = refl
+either true false x e = refl
+either false true x e = refl
+either false false x e = e
+
+pub is_new : (m m1 m2 : Folders) (r : Records) → m.entries ≡ [] → r.entries ≡ [] → AddsFolder (codes "wal") m m1 → AddsFolder (codes "run") m1 m2 → contents_in m2 r ≡ new_contents
+unfolding contents_in
+is_new m m1 m2 r e e' wal run =
+    let none : (g : List ℕ) → get_by_text m g ≡ None = λ g. ap (lookup (is_at (λ k. slice_cmp nat_cmp g (string_bytes k)))) e in
+    let no_record : (k : List ℕ) → get_by_text r k ≡ None = λ k. ap (lookup (is_at (λ j. slice_cmp nat_cmp k (string_bytes j)))) e' in
+    let stands : (g : List ℕ) → stands_in m2 g ≡ (bytes_eq (codes "wal") g || bytes_eq (codes "run") g) =
+        λ g. run.stands g ∙ ap (cond (bytes_eq (codes "run") g) true) (wal.stands g) ∙ either (bytes_eq (codes "wal") g) (bytes_eq (codes "run") g) (stands_in m g) (ap is_some (none g)) in
+    let files : (g q : List ℕ) → file_in m2 g q ≡ None = λ g q. run.files g q ∙ wal.files g q ∙ ap (λ o. file_at o q) (none g) in
+    let records : (k : List ℕ) → record_in r k ≡ None = λ k. ap record_at (no_record k) in
+    λ i. record { stands = λ g. stands g i; files = λ g q. files g q i; records = λ k. records k i }

@@ -1,17 +1,18 @@
 -- What the plans and counts are after a call of a kind.
-use Rattle.std.proofs.Common.{◌≡◌, ℕ, ◌+◌, ◌-◌, ◌^◌, ◌<◌, ◌≤◌, Bool, true, false, Option, Some, None, Result, Ok, Err, refl, ap, sym, ◌∙◌, arith, rules}
-use Rattle.std.specs.Prelude.{IsErrOf, is_some, IsSome}
+use Rattle.std.proofs.Common.{◌≡◌, ℕ, ◌+◌, ◌-◌, ◌^◌, ◌<◌, ◌≤◌, Bool, true, false, Option, Some, None, Result, Ok, Err, refl, ap, sym, ◌∙◌, arith, rules, subst, true≢false}
+use Rattle.std.specs.Prelude.{IsErrOf, is_some, IsSome, OnOk, OnErr, IfSome}
+use Rattle.rep_types.specs.declared.memory.Memory as rep
 use Rattle.rep_types.specs.declared.state.Call.{Call}
 use Rattle.rep_types.specs.declared.state.Call.TheVariants as call
 use Rattle.rep_vault.specs.declared.store.VaultError.{VaultError}
 use Rattle.rep_vault.specs.declared.store.VaultError.TheVariants.{Failed, Gone, Sealed, Exists, Memory}
 use Rattle.rep_vault.specs.declared.kind.Kind.{Kind}
 use Rattle.rep_vault.specs.declared.plans.Plans.{Plans}
-use Rattle.rep_vault.specs.Tallies.{Counted, Tally, IsBounded, total}
+use Rattle.rep_vault.specs.Tallies.{Counted, Tally, PlansOne, total}
 use Rattle.rep_vault.specs.Kinds.{ahead}
-use Rattle.rep_vault.specs.Plans.{Runs, PassesOne, of_kind, faults_of, planned_of}
+use Rattle.rep_vault.specs.Plans.{Runs, Strikes, PassesOne, PlansAt, AreUnchanged, of_kind, faults_of, planned_of}
 use Rattle.rep_vault.specs.Laws.{fit}
-use Rattle.rep_vault.specs.Memory.{tally_in, ahead_in, Uses, Follows}
+use Rattle.rep_vault.specs.Memory.{tally_in, ahead_in, Uses, Follows, PlansAhead}
 
 one_more : (k : Call) (old new : Plans) → PassesOne k old new → IsSome (ahead (of_kind k old) 1) → faults_of old k < faults_of new k
 one_more k old new passes due = grind (arith, passes.here.faults)
@@ -41,3 +42,64 @@ follows k p q (Err Gone) runs = ap (λ x j n. ahead (of_kind j x) n) runs
 follows k p q (Err Exists) runs = ap (λ x j n. ahead (of_kind j x) n) runs
 follows k p q (Err Sealed) runs = ap (λ x j n. ahead (of_kind j x) n) runs
 follows k p q (Err Memory) runs = ap (λ x j n. ahead (of_kind j x) n) runs
+
+-- a call that is struck fails, and one that isn't is made in the end
+struck : (k : Call) (p q : Plans) (b : Bool) → Strikes k p q b → b ≡ true → IsSome (ahead (of_kind k p) 1) × PassesOne k p q
+struck k p q true s e = s
+struck k p q false s e = absurd (true≢false (sym e))
+
+passed : (k : Call) (p q z : Plans) (b : Bool) → Strikes k p q b → b ≡ false → PassesOne k q z → (ahead (of_kind k p) 1 ≡ None) × PassesOne k p z
+passed k p q z true s e passes = absurd (true≢false e)
+passed k p q z false s e passes = (s.0, subst (λ x. PassesOne k x z) s.1 passes)
+
+pub struck_counted : {T : Type 0} (k : Call) (p q : Plans) (b : Bool) → Strikes k p q b → b ≡ true → Counted {T = T} k (tally_in p) (tally_in q) (Err Failed)
+struck_counted k p q b s e = counted k p q (Err Failed) (struck k p q b s e)
+
+pub struck_follows : (k : Call) (p q : Plans) (b : Bool) → Strikes k p q b → b ≡ true → IsSome (ahead_in p k 1) × Uses k (ahead_in p) (ahead_in q)
+unfolding ahead_in
+struck_follows k p q b s e = let runs = struck k p q b s e in (runs.0, uses k p q runs.1)
+
+pub passed_counted : {T : Type 0} (x : T) (k : Call) (p q z : Plans) (b : Bool) → Strikes k p q b → b ≡ false → PassesOne k q z → Counted {T = T} k (tally_in p) (tally_in z) (Ok x)
+passed_counted x k p q z b s e passes = counted k p z (Ok x) (passed k p q z b s e passes)
+
+pub passed_follows : (k : Call) (p q z : Plans) (b : Bool) → Strikes k p q b → b ≡ false → PassesOne k q z → (ahead_in p k 1 ≡ None) × Uses k (ahead_in p) (ahead_in z)
+unfolding ahead_in
+passed_follows k p q z b s e passes = let runs = passed k p q z b s e passes in (runs.0, uses k p z runs.1)
+
+-- plans that are made
+pub plans_one : (k : Call) (nth bytes : ℕ) (p q : Plans) (result : Result (Unit {0}) rep.Memory) → OnOk result (PlansAt k nth bytes p q) → OnOk result (PlansOne (tally_in p) (tally_in q))
+unfolding tally_in
+plans_one k nth bytes p q (Ok x) plans = record { kept = plans.kept; planned = ap Some plans.planned }
+plans_one k nth bytes p q (Err e) plans = tt
+
+pub plans_ahead : (k : Call) (nth bytes : ℕ) (p q : Plans) (result : Result (Unit {0}) rep.Memory) → OnOk result (PlansAt k nth bytes p q) → OnOk result (PlansAhead k nth bytes (ahead_in p) (ahead_in q))
+unfolding ahead_in
+plans_ahead k nth bytes p q (Ok x) plans = record { here = plans.here.due; others = λ j n apart. ap (λ y. ahead y n) (plans.others j apart) }
+plans_ahead k nth bytes p q (Err e) plans = tt
+
+pub same_tally : (p q : Plans) (result : Result (Unit {0}) rep.Memory) → OnErr result (AreUnchanged p q) → OnErr result (tally_in q ≡ tally_in p)
+unfolding tally_in
+same_tally p q (Ok x) same = tt
+same_tally p q (Err e) same = λ i. record { faults = λ k. (same.each k).faults i; planned = Some (total (λ k. (same.each k).planned i)) }
+
+pub same_ahead : (p q : Plans) (result : Result (Unit {0}) rep.Memory) → OnErr result (AreUnchanged p q) → OnErr result (ahead_in q ≡ ahead_in p)
+unfolding ahead_in
+same_ahead p q (Ok x) same = tt
+same_ahead p q (Err e) same = λ i k n. (same.each k).due n i
+
+-- the plans are as at the start
+pub no_faults : (p : Plans) → ((k : Call) → faults_of p k ≡ 0) → (k : Call) → (tally_in p).faults k ≡ 0
+unfolding tally_in
+no_faults p none k = none k
+
+pub none_planned : (p : Plans) → planned_of p ≡ 0 → (tally_in p).planned ≡ Some 0
+unfolding tally_in
+none_planned p none = ap Some none
+
+pub none_ahead : (p : Plans) → ((k : Call) (n : ℕ) → ahead (of_kind k p) n ≡ None) → (k : Call) (n : ℕ) → ahead_in p k n ≡ None
+unfolding ahead_in
+none_ahead p none k n = none k n
+
+pub room : (p : Plans) → IfSome (tally_in p).planned (λ n. n < 2 ^ 32 - 1) → planned_of p < 2 ^ 32 - 1
+unfolding tally_in
+room p h = h

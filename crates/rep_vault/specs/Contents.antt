@@ -57,7 +57,7 @@ with_records cs c = record c { records = changed cs c.records }
 
 -- the folders `wal` and `run` stand, and nothing else
 abbrev pub is_first_folder : List ℕ → Bool
-is_first_folder f = bytes_eq f (codes "wal") || bytes_eq f (codes "run")
+is_first_folder f = bytes_eq (codes "wal") f || bytes_eq (codes "run") f
 
 abbrev pub new_contents : Contents
 new_contents = record { stands = is_first_folder; files = λ _ _. None; records = λ _. None }

@@ -82,6 +82,7 @@ Runs k old new (Err Memory) = new ≡ old
 pub record PlansAt (k : Call) (nth bytes : ℕ) (old new : Plans) : Type 0 where
   pub here : Planned nth bytes (of_kind k old) (of_kind k new)
   pub others : (j : Call) → same j k ≡ false → of_kind j new ≡ of_kind j old
+  pub kept : (j : Call) → faults_of new j ≡ faults_of old j
   pub planned : planned_of new ≡ planned_of old + 1
 
 -- nothing was planned and nothing failed

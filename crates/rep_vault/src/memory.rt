@@ -163,11 +163,13 @@ impl Vault for MemVault {
         if self.plans.strikes(Call::Make) {
             return Err(VaultError::Failed);
         }
-        if add_folder(self.alloc, &mut self.folders, folder).is_err() {
-            return Err(VaultError::Memory);
+        match add_folder(self.alloc, &mut self.folders, folder) {
+            Ok(()) => {
+                self.plans.pass(Call::Make);
+                Ok(())
+            }
+            Err(_) => Err(VaultError::Memory),
         }
-        self.plans.pass(Call::Make);
-        Ok(())
     }
 
     fn rename_folder(&mut self, from: &str, to: &str) -> Result<(), VaultError>
@@ -185,11 +187,13 @@ impl Vault for MemVault {
         if self.plans.strikes(Call::Rename) {
             return Err(VaultError::Failed);
         }
-        if move_folder(self.alloc, &mut self.folders, from, to).is_err() {
-            return Err(VaultError::Memory);
+        match move_folder(self.alloc, &mut self.folders, from, to) {
+            Ok(()) => {
+                self.plans.pass(Call::Rename);
+                Ok(())
+            }
+            Err(_) => Err(VaultError::Memory),
         }
-        self.plans.pass(Call::Rename);
-        Ok(())
     }
 
     fn remove(&mut self, folder: &str, name: &str) -> Result<(), VaultError>
@@ -237,11 +241,13 @@ impl Vault for MemVault {
         if self.plans.strikes(Call::Put) {
             return Err(VaultError::Failed);
         }
-        if put_records(self.alloc, &mut self.records, changes).is_err() {
-            return Err(VaultError::Memory);
+        match put_records(self.alloc, &mut self.records, changes) {
+            Ok(()) => {
+                self.plans.pass(Call::Put);
+                Ok(())
+            }
+            Err(_) => Err(VaultError::Memory),
         }
-        self.plans.pass(Call::Put);
-        Ok(())
     }
 
     fn get(&mut self, key: &str, out: &mut Bytes) -> Result<bool, VaultError>
@@ -287,6 +293,7 @@ impl Vault for MemVault {
         Ok(())
     }
 
+    #[tactic(auto, unfolding(crate::specs::Memory::tally_in))]
     fn faults(&self) -> u64 {
         self.plans.faults()
     }

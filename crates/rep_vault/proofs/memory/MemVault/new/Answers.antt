@@ -1,0 +1,19 @@
+use Rattle.rep_vault.proofs.Runs.{no_faults, none_planned, none_ahead}
+use Rattle.rep_vault.proofs.Contents.{is_new}
+use Rattle.rep_vault.proofs.memory.MemVault.new.Goals as goal
+
+pub returns-clause-contents : goal.returns-clause-contents
+returns-clause-contents c =
+    is_new c.new-folders.result c.add_folder.new.folders c.add_folder-2.new.folders c.new-2.result c.new-folders.ensures.empty ? ? ?
+
+pub returns-clause-faults : goal.returns-clause-faults
+returns-clause-faults c =
+    no_faults _ ?
+
+pub returns-clause-planned : goal.returns-clause-planned
+returns-clause-planned c =
+    none_planned _ ?
+
+pub returns-clause-ahead : goal.returns-clause-ahead
+returns-clause-ahead c =
+    none_ahead _ ?
