@@ -7,3 +7,4 @@ pub mod Memory
 pub mod Plans
 pub mod Stored
 pub mod Tallies
+pub mod Tries

@@ -8,7 +8,10 @@ mod memory;
 mod plans;
 mod records;
 mod store;
+mod tried;
 mod vault;
 
+pub use memory::MemVault;
 pub use store::{Change, VaultError};
+pub use tried::{Tried, TriedSeal, try_append, try_create};
 pub use vault::{Outcome, Vault};

@@ -4,16 +4,16 @@ use Rattle.rep_vault.proofs.memory.MemVault.new.Goals as goal
 
 pub returns-clause-contents : goal.returns-clause-contents
 returns-clause-contents c =
-    is_new c.new-folders.result c.add_folder.new.folders c.add_folder-2.new.folders c.new-2.result c.new-folders.ensures.empty ? ? ?
+    is_new c.new-folders.result c.add_folder.new.folders c.add_folder-2.new.folders c.new.result c.new-folders.ensures.empty c.new.ensures.empty c.in_ok-add_folder.ensures.ok c.in_ok-add_folder-2.ensures.ok
 
 pub returns-clause-faults : goal.returns-clause-faults
 returns-clause-faults c =
-    no_faults _ ?
+    no_faults c.new-2.result c.new-2.ensures.faults
 
 pub returns-clause-planned : goal.returns-clause-planned
 returns-clause-planned c =
-    none_planned _ ?
+    none_planned c.new-2.result c.new-2.ensures.planned
 
 pub returns-clause-ahead : goal.returns-clause-ahead
 returns-clause-ahead c =
-    none_ahead _ ?
+    none_ahead c.new-2.result c.new-2.ensures.none

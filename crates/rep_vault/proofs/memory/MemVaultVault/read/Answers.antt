@@ -1,4 +1,4 @@
-use Rattle.std.proofs.Common.{Some, ap}
+use Rattle.std.proofs.Common.{◌∙◌}
 use Rattle.rep_types.specs.declared.state.Call.TheVariants.{Read}
 use Rattle.rep_vault.specs.Stored.{shown}
 use Rattle.rep_vault.proofs.Runs.{struck_counted, struck_follows, passed_counted, passed_follows}
@@ -15,7 +15,7 @@ returns-in_default-clause-does c =
 
 pub returns-in-Ok-clause-does : goal.returns-in-Ok-clause-does
 returns-in-Ok-clause-does c =
-    (shown c.in-Some.file.now, found_file c.args.folder.now c.args.name.now c.args.self.now.folders c.args.self.now.records c.find.result c.in-Some.file c.in-Some.is c.find.ensures, ?)
+    (shown c.in-Some.file.now, found_file c.args.folder.now c.args.name.now c.args.self.now.folders c.args.self.now.records c.find.result c.in-Some.file c.in-Some.is c.find.ensures, c.in-Ok.ensures ∙ c.part.ensures)
 
 pub returns-in-None-clause-does : goal.returns-in-None-clause-does
 returns-in-None-clause-does c =
