@@ -13,5 +13,8 @@ mod vault;
 
 pub use memory::MemVault;
 pub use store::{Change, VaultError};
-pub use tried::{Tried, TriedSeal, try_append, try_create};
+pub use tried::{
+    Tried, TriedSeal, try_append, try_create, try_list, try_make, try_put, try_read, try_remove,
+    try_rename, try_seal, try_sync,
+};
 pub use vault::{Outcome, Vault};
