@@ -12,7 +12,7 @@ use Rattle.rep_vault.specs.Tallies.{Counted, Tally, PlansOne, total}
 use Rattle.rep_vault.specs.Kinds.{ahead}
 use Rattle.rep_vault.specs.Plans.{Runs, Strikes, PassesOne, PlansAt, AreUnchanged, of_kind, faults_of, planned_of}
 use Rattle.rep_vault.specs.Laws.{fit}
-use Rattle.rep_vault.specs.Memory.{tally_in, ahead_in, Uses, Follows, PlansAhead}
+use Rattle.rep_vault.specs.Memory.{tally_in, ahead_in, Uses, Raises, RaisesNone, IsUncounted, FollowsIn, PlansAhead}
 
 one_more : (k : Call) (old new : Plans) → PassesOne k old new → IsSome (ahead (of_kind k old) 1) → faults_of old k < faults_of new k
 one_more k old new passes due = grind (arith, passes.here.faults)
@@ -30,18 +30,29 @@ counted k p q (Err Exists) runs = untold k p q (Err Exists) (λ h. cc) runs
 counted k p q (Err Sealed) runs = untold k p q (Err Sealed) (λ h. cc) runs
 counted k p q (Err Memory) runs = untold k p q (Err Memory) (λ h. cc) runs
 
-uses : (k : Call) (p q : Plans) → PassesOne k p q → Uses k (ahead_in p) (ahead_in q)
+uses : (k : Call) (p q : Plans) → PassesOne k p q → Uses k p q
 unfolding ahead_in
 uses k p q passes = record { next = passes.here.next; others = λ j n apart. ap (λ x. ahead x n) (passes.others j apart) }
 
-pub follows : {T : Type 0} (k : Call) (p q : Plans) (result : Result T VaultError) → Runs k p q result → Follows k (ahead_in p) (ahead_in q) result
+raises : (k : Call) (p q : Plans) → PassesOne k p q → IsSome (ahead (of_kind k p) 1) → Raises k (tally_in p) (tally_in q)
+unfolding tally_in
+raises k p q passes due = record { here = grind (arith, passes.here.faults); others = λ j apart. ap (λ x. x.faults) (passes.others j apart) }
+
+raises_none : (k : Call) (p q : Plans) → PassesOne k p q → ahead (of_kind k p) 1 ≡ None → RaisesNone (tally_in p) (tally_in q)
+unfolding tally_in
+raises_none k p q passes none = record { each = passes.fine none }
+
+uncounted : (p q : Plans) → q ≡ p → IsUncounted p q
+uncounted p q e = (ap ahead_in e, ap tally_in e)
+
+pub follows : {T : Type 0} (k : Call) (p q : Plans) (result : Result T VaultError) → Runs k p q result → FollowsIn k p q result
 unfolding ahead_in
-follows k p q (Ok x) runs = (runs.0, uses k p q runs.1)
-follows k p q (Err Failed) runs = (runs.0, uses k p q runs.1)
-follows k p q (Err Gone) runs = ap (λ x j n. ahead (of_kind j x) n) runs
-follows k p q (Err Exists) runs = ap (λ x j n. ahead (of_kind j x) n) runs
-follows k p q (Err Sealed) runs = ap (λ x j n. ahead (of_kind j x) n) runs
-follows k p q (Err Memory) runs = ap (λ x j n. ahead (of_kind j x) n) runs
+follows k p q (Ok x) runs = (runs.0, uses k p q runs.1, raises_none k p q runs.1 runs.0)
+follows k p q (Err Failed) runs = (runs.0, uses k p q runs.1, raises k p q runs.1 runs.0)
+follows k p q (Err Gone) runs = uncounted p q runs
+follows k p q (Err Exists) runs = uncounted p q runs
+follows k p q (Err Sealed) runs = uncounted p q runs
+follows k p q (Err Memory) runs = uncounted p q runs
 
 -- a call that is struck fails, and one that isn't is made in the end
 struck : (k : Call) (p q : Plans) (b : Bool) → Strikes k p q b → b ≡ true → IsSome (ahead (of_kind k p) 1) × PassesOne k p q
@@ -55,16 +66,14 @@ passed k p q z false s e passes = (s.0, subst (λ x. PassesOne k x z) s.1 passes
 pub struck_counted : {T : Type 0} (k : Call) (p q : Plans) (b : Bool) → Strikes k p q b → b ≡ true → Counted {T = T} k (tally_in p) (tally_in q) (Err Failed)
 struck_counted k p q b s e = counted k p q (Err Failed) (struck k p q b s e)
 
-pub struck_follows : (k : Call) (p q : Plans) (b : Bool) → Strikes k p q b → b ≡ true → IsSome (ahead_in p k 1) × Uses k (ahead_in p) (ahead_in q)
-unfolding ahead_in
-struck_follows k p q b s e = let runs = struck k p q b s e in (runs.0, uses k p q runs.1)
+pub struck_follows : (k : Call) (p q : Plans) (b : Bool) → Strikes k p q b → b ≡ true → IsSome (ahead_in p k 1) × Uses k p q × Raises k (tally_in p) (tally_in q)
+struck_follows k p q b s e = follows {T = ℕ} k p q (Err Failed) (struck k p q b s e)
 
 pub passed_counted : {T : Type 0} (x : T) (k : Call) (p q z : Plans) (b : Bool) → Strikes k p q b → b ≡ false → PassesOne k q z → Counted {T = T} k (tally_in p) (tally_in z) (Ok x)
 passed_counted x k p q z b s e passes = counted k p z (Ok x) (passed k p q z b s e passes)
 
-pub passed_follows : (k : Call) (p q z : Plans) (b : Bool) → Strikes k p q b → b ≡ false → PassesOne k q z → (ahead_in p k 1 ≡ None) × Uses k (ahead_in p) (ahead_in z)
-unfolding ahead_in
-passed_follows k p q z b s e passes = let runs = passed k p q z b s e passes in (runs.0, uses k p z runs.1)
+pub passed_follows : (k : Call) (p q z : Plans) (b : Bool) → Strikes k p q b → b ≡ false → PassesOne k q z → (ahead_in p k 1 ≡ None) × Uses k p z × RaisesNone (tally_in p) (tally_in z)
+passed_follows k p q z b s e passes = follows {T = ℕ} k p z (Ok 0) (passed k p q z b s e passes)
 
 -- plans that are made
 pub plans_one : (k : Call) (nth bytes : ℕ) (p q : Plans) (result : Result (Unit {0}) rep.Memory) → OnOk result (PlansAt k nth bytes p q) → OnOk result (PlansOne (tally_in p) (tally_in q))

@@ -39,18 +39,35 @@ abbrev pub keep_of : MemVault → Option ℕ
 keep_of v = v.keep
 
 -- a call of that kind is made: what was planned for the next but one is planned for the next
-pub record Uses (k : Call) (old new : Call → ℕ → Option ℕ) : Type 0 where
-  pub next : (n : ℕ) → 1 ≤ n → new k n ≡ old k (n + 1)
-  pub others : (j : Call) (n : ℕ) → same j k ≡ false → new j n ≡ old j n
+pub record Uses (k : Call) (old new : Plans) : Type 0 where
+  pub next : (n : ℕ) → 1 ≤ n → ahead_in new k n ≡ ahead_in old k (n + 1)
+  pub others : (j : Call) (n : ℕ) → same j k ≡ false → ahead_in new j n ≡ ahead_in old j n
 
--- A call of that kind fails exactly where that is planned. One that is refused, or finds no memory, isn't counted.
-abbrev pub Follows : {T : Type 0} → Call → (Call → ℕ → Option ℕ) → (Call → ℕ → Option ℕ) → Result T VaultError → Type 0
-Follows k old new (Ok _) = (old k 1 ≡ None) × Uses k old new
-Follows k old new (Err Failed) = IsSome (old k 1) × Uses k old new
-Follows k old new (Err Gone) = new ≡ old
-Follows k old new (Err Exists) = new ≡ old
-Follows k old new (Err Sealed) = new ≡ old
-Follows k old new (Err Memory) = new ≡ old
+-- the count of that kind rises by one, and the others stay
+pub record Raises (k : Call) (old new : Tally) : Type 0 where
+  pub here : new.faults k ≡ old.faults k + 1
+  pub others : (j : Call) → same j k ≡ false → new.faults j ≡ old.faults j
+
+-- no count rises
+pub record RaisesNone (old new : Tally) : Type 0 where
+  pub each : (j : Call) → new.faults j ≡ old.faults j
+
+-- nothing is counted
+abbrev pub IsUncounted : Plans → Plans → Type 0
+IsUncounted old new = (ahead_in new ≡ ahead_in old) × (tally_in new ≡ tally_in old)
+
+abbrev pub FollowsIn : {T : Type 0} → Call → Plans → Plans → Result T VaultError → Type 0
+FollowsIn k old new (Ok _) = (ahead_in old k 1 ≡ None) × Uses k old new × RaisesNone (tally_in old) (tally_in new)
+FollowsIn k old new (Err Failed) = IsSome (ahead_in old k 1) × Uses k old new × Raises k (tally_in old) (tally_in new)
+FollowsIn k old new (Err Gone) = IsUncounted old new
+FollowsIn k old new (Err Exists) = IsUncounted old new
+FollowsIn k old new (Err Sealed) = IsUncounted old new
+FollowsIn k old new (Err Memory) = IsUncounted old new
+
+-- A call of that kind fails exactly where that is planned, and raises its count by one. One that is refused, or finds no
+-- memory, isn't counted.
+abbrev pub Follows : {T : Type 0} → Call → MemVault → MemVault → Result T VaultError → Type 0
+Follows k old new result = FollowsIn k old.plans new.plans result
 
 -- a failing append leaves so many bytes of its piece, or all of it where it is shorter
 abbrev pub AppendsFirst : {T : Type 0} → List ℕ → List ℕ → List ℕ → Option ℕ → Contents → Contents → Result T VaultError → Type 0

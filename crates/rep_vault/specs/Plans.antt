@@ -62,6 +62,7 @@ pub record PassesOne (k : Call) (old new : Plans) : Type 0 where
   pub here : Passed (of_kind k old) (of_kind k new)
   pub others : (j : Call) → same j k ≡ false → of_kind j new ≡ of_kind j old
   pub kept : (j : Call) → faults_of old j ≤ faults_of new j
+  pub fine : ahead (of_kind k old) 1 ≡ None → (j : Call) → faults_of new j ≡ faults_of old j
   pub planned : planned_of new ≡ planned_of old
 
 -- a call of that kind is to fail and was made, or isn't to fail and wasn't made

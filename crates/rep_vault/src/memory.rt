@@ -64,7 +64,7 @@ impl Vault for MemVault {
     fn create(&mut self, folder: &str, name: &str) -> Result<(), VaultError>
         ensures does { Creates folder.now name.now (contents_of self.old) (contents_of self.new) result }
         ensures counted { Counted Create (tally_of self.old) (tally_of self.new) result }
-        ensures follows { Follows Create (ahead_of self.old) (ahead_of self.new) result }
+        ensures follows { Follows Create self.old self.new result }
         ensures keeps { keep_of self.new ≡ keep_of self.old }
     {
         match self.folders.get_mut(folder) {
@@ -76,7 +76,7 @@ impl Vault for MemVault {
     fn append(&mut self, folder: &str, name: &str, piece: &[u8]) -> Result<(), VaultError>
         ensures does { Appends folder.now name.now piece.now (contents_of self.old) (contents_of self.new) result }
         ensures counted { Counted Append (tally_of self.old) (tally_of self.new) result }
-        ensures follows { Follows Append (ahead_of self.old) (ahead_of self.new) result }
+        ensures follows { Follows Append self.old self.new result }
         ensures leaves { AppendsFirst folder.now name.now piece.now (ahead_of self.old Append 1)
             (contents_of self.old) (contents_of self.new) result }
         ensures keeps { keep_of self.new ≡ keep_of self.old }
@@ -93,7 +93,7 @@ impl Vault for MemVault {
     fn sync(&mut self, folder: &str, name: &str) -> Result<(), VaultError>
         ensures does { Syncs folder.now name.now (contents_of self.old) (contents_of self.new) result }
         ensures counted { Counted Sync (tally_of self.old) (tally_of self.new) result }
-        ensures follows { Follows Sync (ahead_of self.old) (ahead_of self.new) result }
+        ensures follows { Follows Sync self.old self.new result }
         ensures keeps { keep_of self.new ≡ keep_of self.old }
     {
         match self.folders.get_mut(folder) {
@@ -108,7 +108,7 @@ impl Vault for MemVault {
     fn seal(&mut self, folder: &str, name: &str) -> Result<u64, VaultError>
         ensures does { Seals folder.now name.now (contents_of self.old) (contents_of self.new) result }
         ensures counted { Counted Seal (tally_of self.old) (tally_of self.new) result }
-        ensures follows { Follows Seal (ahead_of self.old) (ahead_of self.new) result }
+        ensures follows { Follows Seal self.old self.new result }
         ensures keeps { SealsAt folder.now name.now (contents_of self.old) (keep_of self.old) (keep_of self.new) result }
     {
         match self.folders.get_mut(folder) {
@@ -132,7 +132,7 @@ impl Vault for MemVault {
         ensures err { OnErr result (out.new ≡ out.old) }
         ensures kept { contents_of self.new ≡ contents_of self.old }
         ensures counted { Counted Read (tally_of self.old) (tally_of self.new) result }
-        ensures follows { Follows Read (ahead_of self.old) (ahead_of self.new) result }
+        ensures follows { Follows Read self.old self.new result }
         ensures keeps { keep_of self.new ≡ keep_of self.old }
     {
         match find(&self.folders, folder, name) {
@@ -154,7 +154,7 @@ impl Vault for MemVault {
     fn make_folder(&mut self, folder: &str) -> Result<(), VaultError>
         ensures does { Makes folder.now (contents_of self.old) (contents_of self.new) result }
         ensures counted { Counted Make (tally_of self.old) (tally_of self.new) result }
-        ensures follows { Follows Make (ahead_of self.old) (ahead_of self.new) result }
+        ensures follows { Follows Make self.old self.new result }
         ensures keeps { keep_of self.new ≡ keep_of self.old }
     {
         if self.folders.contains_key(folder) {
@@ -175,7 +175,7 @@ impl Vault for MemVault {
     fn rename_folder(&mut self, from: &str, to: &str) -> Result<(), VaultError>
         ensures does { Renames from.now to.now (contents_of self.old) (contents_of self.new) result }
         ensures counted { Counted Rename (tally_of self.old) (tally_of self.new) result }
-        ensures follows { Follows Rename (ahead_of self.old) (ahead_of self.new) result }
+        ensures follows { Follows Rename self.old self.new result }
         ensures keeps { keep_of self.new ≡ keep_of self.old }
     {
         if !self.folders.contains_key(from) {
@@ -199,7 +199,7 @@ impl Vault for MemVault {
     fn remove(&mut self, folder: &str, name: &str) -> Result<(), VaultError>
         ensures does { Removes folder.now name.now (contents_of self.old) (contents_of self.new) result }
         ensures counted { Counted Remove (tally_of self.old) (tally_of self.new) result }
-        ensures follows { Follows Remove (ahead_of self.old) (ahead_of self.new) result }
+        ensures follows { Follows Remove self.old self.new result }
         ensures keeps { keep_of self.new ≡ keep_of self.old }
     {
         match self.folders.get_mut(folder) {
@@ -213,7 +213,7 @@ impl Vault for MemVault {
         ensures err { OnErr result (out.new ≡ out.old) }
         ensures kept { contents_of self.new ≡ contents_of self.old }
         ensures counted { Counted List (tally_of self.old) (tally_of self.new) result }
-        ensures follows { Follows List (ahead_of self.old) (ahead_of self.new) result }
+        ensures follows { Follows List self.old self.new result }
         ensures keeps { keep_of self.new ≡ keep_of self.old }
     {
         match self.folders.get(folder) {
@@ -235,7 +235,7 @@ impl Vault for MemVault {
     fn put_all(&mut self, changes: &[Change]) -> Result<(), VaultError>
         ensures does { Puts changes.now (contents_of self.old) (contents_of self.new) result }
         ensures counted { Counted Put (tally_of self.old) (tally_of self.new) result }
-        ensures follows { Follows Put (ahead_of self.old) (ahead_of self.new) result }
+        ensures follows { Follows Put self.old self.new result }
         ensures keeps { keep_of self.new ≡ keep_of self.old }
     {
         if self.plans.strikes(Call::Put) {
