@@ -98,11 +98,11 @@ fn the_later_of_two_changes_stands(rt: HostRuntime) -> Result<(), Fail> {
 fn plans_fall_on_calls(rt: HostRuntime) -> Result<(), Fail> {
     let alloc = rt.alloc();
     let mut vault = MemVault::new(alloc)?;
+    vault.plan_failure(Call::Append, 2, 1)?;
+    vault.plan_failure(Call::Append, 2, 3)?;
+    vault.plan_failure(Call::Append, 3, 9)?;
     let mut out = Bytes::new(alloc);
     vault.create(WAL, "1.1")?;
-    for (nth, bytes) in [(2u32, 1u32), (2, 3), (3, 9)] {
-        vault.plan_failure(Call::Append, nth, bytes)?;
-    }
     for fails in [false, true, true, false] {
         let done = vault.append(WAL, "1.1", b"frame");
         assert_eq!(rt; done == Err(VaultError::Failed), fails);
@@ -117,6 +117,7 @@ fn plans_fall_on_calls(rt: HostRuntime) -> Result<(), Fail> {
 #[test]
 fn a_keep_waits_for_a_seal(rt: HostRuntime) -> Result<(), Fail> {
     let mut vault = MemVault::new(rt.alloc())?;
+    vault.plan_failure(Call::Seal, 2, 0)?;
     for name in ["1.1", "1.2", "1.3"] {
         vault.create(WAL, name)?;
         vault.append(WAL, name, b"frame")?;
@@ -124,7 +125,6 @@ fn a_keep_waits_for_a_seal(rt: HostRuntime) -> Result<(), Fail> {
     assert_eq!(rt; vault.seal(WAL, "1.1")?, 0);
     vault.plan_keep(1)?;
     vault.plan_keep(3)?;
-    vault.plan_failure(Call::Seal, 1, 0)?;
     assert_eq!(rt; vault.seal(WAL, "1.2"), Err(VaultError::Failed));
     assert_eq!(rt; vault.seal(WAL, "1.1")?, 0);
     assert_eq!(rt; vault.seal(WAL, "1.2")?, 3);
