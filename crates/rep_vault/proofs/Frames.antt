@@ -1,8 +1,9 @@
 -- What a change of one file, of a folder or of some records leaves as it was.
-use Rattle.std.proofs.Common.{◌≡◌, ℕ, Bool, true, false, ◌&&◌, ◌||◌, cond, List, [], ◌∷◌, Option, Some, None, refl, ap, sym, ◌∙◌, subst}
+use Rattle.std.proofs.Common.{◌≡◌, ℕ, Bool, true, false, ◌&&◌, ◌||◌, cond, List, [], ◌∷◌, Option, Some, None, refl, ap, sym, ◌∙◌, subst, ◌++◌, true≢false}
 use Rattle.std.proofs.lemmas.Bool.{cond-true, cond-false, false_from_ne_true, and_from, and_parts}
 use Rattle.std.proofs.lemmas.Slice.Eq.{bytes_eq-Decides}
 use Rattle.std.specs.Str.{bytes_eq}
+use Rattle.std.specs.List.{list_any}
 use Rattle.rep_vault.specs.declared.store.Change.{Change}
 use Rattle.rep_vault.specs.Contents.{File, Contents, IsSound, set_file, with_folder, renamed, set_record, changed, with_records}
 
@@ -108,3 +109,18 @@ record_here key value records = cond-true _ _ _ (same_text key)
 
 pub record_other : (key q : List ℕ) (value : Option (List ℕ)) (records : List ℕ → Option (List ℕ)) → (key ≡ q → ⊥) → set_record key value records q ≡ records q
 record_other key q value records apart = cond-false _ _ _ (other_text key q apart)
+
+pub changed_then : (cs ds : List Change) (records : List ℕ → Option (List ℕ)) → changed (cs ++ ds) records ≡ changed ds (changed cs records)
+changed_then [] ds records = refl
+changed_then (c ∷ cs) ds records = changed_then cs ds (set_record c.key c.value records)
+
+neither : (b rest : Bool) → (b || rest) ≡ false → (b ≡ false) × (rest ≡ false)
+neither true rest e = absurd (true≢false e)
+neither false rest e = (refl, e)
+
+-- a key that no change names
+pub changed_other : (cs : List Change) (records : List ℕ → Option (List ℕ)) (q : List ℕ) → list_any (λ c. bytes_eq c.key q) cs ≡ false → changed cs records q ≡ records q
+changed_other [] records q e = refl
+changed_other (c ∷ cs) records q e =
+    let apart = neither (bytes_eq c.key q) (list_any (λ d. bytes_eq d.key q) cs) e in
+    changed_other cs (set_record c.key c.value records) q apart.1 ∙ cond-false (bytes_eq c.key q) c.value (records q) apart.0

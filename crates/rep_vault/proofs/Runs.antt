@@ -8,7 +8,7 @@ use Rattle.rep_vault.specs.declared.store.VaultError.{VaultError}
 use Rattle.rep_vault.specs.declared.store.VaultError.TheVariants.{Failed, Gone, Sealed, Exists, Memory}
 use Rattle.rep_vault.specs.declared.kind.Kind.{Kind}
 use Rattle.rep_vault.specs.declared.plans.Plans.{Plans}
-use Rattle.rep_vault.specs.Tallies.{Counted, Tally, PlansOne, total}
+use Rattle.rep_vault.specs.Tallies.{CountsNone, Counted, Tally, PlansOne, total}
 use Rattle.rep_vault.specs.Kinds.{ahead}
 use Rattle.rep_vault.specs.Plans.{Runs, Strikes, PassesOne, PlansAt, AreUnchanged, of_kind, faults_of, planned_of}
 use Rattle.rep_vault.specs.Laws.{fit}
@@ -97,9 +97,9 @@ same_ahead p q (Ok x) same = tt
 same_ahead p q (Err e) same = λ i k n. (same.each k).due n i
 
 -- the plans are as at the start
-pub no_faults : (p : Plans) → ((k : Call) → faults_of p k ≡ 0) → (k : Call) → (tally_in p).faults k ≡ 0
+pub counts_none : (p : Plans) → ((k : Call) → faults_of p k ≡ 0) → planned_of p ≡ 0 → CountsNone (tally_in p)
 unfolding tally_in
-no_faults p none k = none k
+counts_none p none unplanned = record { faults = none; planned = unplanned }
 
 pub none_planned : (p : Plans) → planned_of p ≡ 0 → (tally_in p).planned ≡ Some 0
 unfolding tally_in

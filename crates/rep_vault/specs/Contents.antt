@@ -17,10 +17,11 @@ pub record Contents : Type 0 where
   pub files : List ℕ → List ℕ → Option File
   pub records : List ℕ → Option (List ℕ)
 
--- files stand in folders that stand, and what is synced was written
+-- files stand in folders that stand, what is synced was written, and a sealed file is synced whole
 pub record IsSound (c : Contents) : Type 0 where
   pub housed : (f n : List ℕ) → c.stands f ≡ false → c.files f n ≡ None
   pub synced : (f n : List ℕ) (x : File) → c.files f n ≡ Some x → x.synced ≤ length x.bytes
+  pub sealed : (f n : List ℕ) (x : File) → c.files f n ≡ Some x → x.sealed ≡ true → x.synced ≡ length x.bytes
 
 -- that file is so, and all else stays
 unfoldable pub set_file : List ℕ → List ℕ → Option File → Contents → Contents

@@ -18,11 +18,16 @@ pub none : {X : Type 0} (o : Option X) → is_some o ≡ false → o ≡ None
 none None e = refl
 none (Some x) e = absurd (true≢false e)
 
-stored : (o : Option MemFile) (x : File) → option_map shown o ≡ Some x → x.synced ≤ length x.bytes
-stored None x e = cc
-stored (Some y) x e = let same : shown y ≡ x = cc in subst (λ z. z.synced ≤ length z.bytes) same y.within
+-- what holds of each file in memory
+record IsWhole (x : File) : Type 0 where
+  synced : x.synced ≤ length x.bytes
+  sealed : x.sealed ≡ true → x.synced ≡ length x.bytes
 
-found : (o : Option Folder) (n : List ℕ) (x : File) → file_at o n ≡ Some x → x.synced ≤ length x.bytes
+stored : (o : Option MemFile) (x : File) → option_map shown o ≡ Some x → IsWhole x
+stored None x e = cc
+stored (Some y) x e = let same : shown y ≡ x = cc in subst IsWhole same (record { synced = y.within; sealed = y.whole })
+
+found : (o : Option Folder) (n : List ℕ) (x : File) → file_at o n ≡ Some x → IsWhole x
 found None n x e = cc
 found (Some d) n x e = stored (get_by_text d.files n) x e
 
@@ -30,7 +35,8 @@ pub sound : (v : MemVault) → IsSound (contents_of v)
 unfolding contents_in
 sound v = record {
   housed = λ f n gone. ap (λ o. file_at o n) (none (get_by_text v.folders f) gone);
-  synced = λ f n x e. found (get_by_text v.folders f) n x e
+  synced = λ f n x e. (found (get_by_text v.folders f) n x e).synced;
+  sealed = λ f n x e. (found (get_by_text v.folders f) n x e).sealed
 }
 
 pub few : (p : Plans) → total (faults_of p) ≤ planned_of p

@@ -4,6 +4,7 @@ pub mod Folders
 pub mod Kinds
 pub mod Laws
 pub mod Memory
+pub mod New
 pub mod Plans
 pub mod Stored
 pub mod Tallies

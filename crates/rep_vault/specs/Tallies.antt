@@ -44,3 +44,8 @@ pub record Counted {T : Type 0} (kind : Call) (old new : Tally) (result : Result
 pub record PlansOne (old new : Tally) : Type 0 where
   pub kept : (k : Call) → new.faults k ≡ old.faults k
   pub planned : new.planned ≡ option_map (λ n. n + 1) old.planned
+
+-- no fault is counted, and none is planned
+pub record CountsNone (t : Tally) : Type 0 where
+  pub faults : (k : Call) → t.faults k ≡ 0
+  pub planned : IfSome t.planned (λ n. n ≡ 0)

@@ -2,7 +2,7 @@ ghost use Rattle.std.specs.Prelude.{◌≡◌, ◌≤◌, ◌<◌, ◌-◌, ◌^
 ghost use Rattle.std.specs.Option.{option_copied};
 ghost use Rattle.rep_types.specs.declared.state.Call.{Call};
 ghost use Rattle.rep_types.specs.declared.state.Call.TheVariants.{Create, Append, Sync, Seal, Read, Make, Rename, Remove, List, Put};
-ghost use Rattle.rep_vault.specs.Contents.{new_contents};
+ghost use Rattle.rep_vault.specs.New.{IsNew};
 ghost use Rattle.rep_vault.specs.Tallies.{Counted, PlansOne, total};
 ghost use Rattle.rep_vault.specs.Calls.{Creates, Appends, Syncs, Seals, Reads, Makes, Renames, Removes, Lists, Puts, Gets};
 ghost use Rattle.rep_vault.specs.Plans.{same};
@@ -33,8 +33,7 @@ pub struct MemVault {
 impl MemVault {
     /// The folders `wal` and `run` stand, and nothing else. No fault is told, and nothing is planned.
     pub fn new(alloc: Global) -> Result<MemVault, Memory>
-        ensures contents { IfOk result (λ vault. contents_of vault ≡ new_contents) }
-        ensures faults { IfOk result (λ vault. (k : Call) → (tally_of vault).faults k ≡ 0) }
+        ensures fresh { IfOk result (λ vault. IsNew (contents_of vault) (tally_of vault)) }
         ensures planned { IfOk result (λ vault. (tally_of vault).planned ≡ Some 0) }
         ensures ahead { IfOk result (λ vault. (k : Call) (n : ℕ) → ahead_of vault k n ≡ None) }
         ensures keep { IfOk result (λ vault. keep_of vault ≡ None) }
