@@ -1,26 +1,24 @@
 -- What a change of the maps is a change of the contents.
-use Rattle.std.proofs.Common.{◌≡◌, ℕ, Bool, true, false, ◌&&◌, cond, List, [], ◌∷◌, Option, Some, None, Result, Ok, Err, refl, ap, sym, ◌∙◌, subst, true≢false, is_some, take, string_bytes, codes, ◌||◌}
-use Rattle.std.specs.Global.{Global}
+use Rattle.std.proofs.Common.{◌≡◌, ℕ, Bool, true, false, ◌&&◌, cond, List, [], Option, Some, None, Result, Ok, Err, refl, ap, sym, ◌∙◌, subst, true≢false, is_some, string_bytes, codes, ◌||◌}
 use Rattle.std.specs.Option.{option_map, option_copied}
 use Rattle.std.specs.Borrow.{Bor}
 use Rattle.std.specs.Map.{lookup}
 use Rattle.std.specs.Ordering.{nat_cmp}
 use Rattle.std.specs.Cmp.Lexicographic.{slice_cmp}
 use Rattle.std.specs.Str.{bytes_eq}
-use Rattle.std.specs.BTreeMap.{BTreeMap, get_by_text, is_at, IsUnchanged}
+use Rattle.std.specs.BTreeMap.{get_by_text, is_at, IsUnchanged}
 use Rattle.std.proofs.lemmas.Slice.Eq.{bytes_eq-Decides}
 use Rattle.rep_vault.specs.declared.store.VaultError.{VaultError}
 use Rattle.rep_vault.specs.declared.store.VaultError.TheVariants.{Failed, Gone, Sealed, Exists, Memory}
 use Rattle.rep_vault.specs.declared.store.Change.{Change}
 use Rattle.rep_vault.specs.declared.folder.Folder.{Folder}
 use Rattle.rep_vault.specs.declared.file.MemFile.{MemFile}
-use Rattle.rep_vault.specs.declared.memory.MemVault.{MemVault}
-use Rattle.rep_vault.specs.Contents.{File, empty_file, Contents, set_file, with_folder, renamed, with_records, changed, new_contents}
-use Rattle.rep_vault.specs.Calls.{AreNames, IsOpen, IsShut, IsFree, IsKept, MayRename, longer, Creates, Appends, Syncs, Seals, Removes, Makes, Renames, Puts}
-use Rattle.rep_vault.specs.Stored.{shown, AppendsTo, SyncsIt, SealsIt}
+use Rattle.rep_vault.specs.Contents.{File, empty_file, set_file, with_folder, renamed, with_records, new_contents}
+use Rattle.rep_vault.specs.Calls.{AreNames, Creates, Removes}
+use Rattle.rep_vault.specs.Stored.{shown}
 use Rattle.rep_vault.specs.Folders.{Folders, Records, file_of, file_at, file_in, stands_in, record_at, record_in, SetsFile, KeepsFiles, CreatesIn, RemovesIn, AddsFolder, MovesFolder, KeepsRecords, MakesChanges}
-use Rattle.rep_vault.specs.Memory.{contents_in, AppendsFirst, SealsAt}
-use Rattle.rep_vault.proofs.Maps.{PutsAt, sets_file}
+use Rattle.rep_vault.specs.Memory.{contents_in}
+use Rattle.rep_vault.proofs.Maps.{PutsAt}
 
 -- one file is changed
 pub record SetsOne (f n : List ℕ) (x : Option File) (old new : Folders) : Type 0 where
@@ -52,13 +50,13 @@ at_same f g m d there b = subst (λ h. get_by_text m h ≡ Some d) ((bytes_eq-De
 pub sets_one : (f n : List ℕ) (m m' : Folders) (d d' : Folder) (x : Option File) → get_by_text m f ≡ Some d → PutsAt f (Some d') m m' → SetsFile n x d d' → SetsOne f n x m m'
 sets_one f n m m' d d' x there p s = record {
   stands = λ g. put_stands (bytes_eq f g) (get_by_text m g) (get_by_text m' g) d d' (p.at g) (at_same f g m d there);
-  files = λ g q. put_files (bytes_eq f g) (bytes_eq n q) (get_by_text m g) (get_by_text m' g) d d' q x (p.at g) (at_same f g m d there) (s.each q)
+  files = λ g q. put_files (bytes_eq f g) (bytes_eq n q) (get_by_text m g) (get_by_text m' g) d d' q x (p.at g) (at_same f g m d there) (s.each q);
 }
 
 pub keeps : (f : List ℕ) (m m' : Folders) (d d' : Folder) → get_by_text m f ≡ Some d → PutsAt f (Some d') m m' → KeepsFiles d d' → Keeps m m'
 keeps f m m' d d' there p s = record {
   stands = λ g. put_stands (bytes_eq f g) (get_by_text m g) (get_by_text m' g) d d' (p.at g) (at_same f g m d there);
-  files = λ g q. kept_files (bytes_eq f g) (get_by_text m g) (get_by_text m' g) d d' q (p.at g) (at_same f g m d there) (s.each q)
+  files = λ g q. kept_files (bytes_eq f g) (get_by_text m g) (get_by_text m' g) d d' q (p.at g) (at_same f g m d there) (s.each q);
 }
 
 pub set_contents : (f n : List ℕ) (x : Option File) (m m' : Folders) (r : Records) → SetsOne f n x m m' → contents_in m' r ≡ set_file f n x (contents_in m r)
@@ -144,7 +142,7 @@ names_there f m r d names there are = let same : file_of d ≡ file_in m f = sym
 pub unchanged : (m m' : Folders) (r : Records) → IsUnchanged m m' → contents_in m' r ≡ contents_in m r
 unchanged m m' r e = keep_contents m m' r (record {
   stands = λ g. ap (λ es. is_some (lookup (is_at (λ k. slice_cmp nat_cmp g (string_bytes k))) es)) e;
-  files = λ g q. ap (λ es. file_at (lookup (is_at (λ k. slice_cmp nat_cmp g (string_bytes k))) es) q) e
+  files = λ g q. ap (λ es. file_at (lookup (is_at (λ k. slice_cmp nat_cmp g (string_bytes k))) es) q) e;
 })
 
 pub added : (f : List ℕ) (m m' : Folders) (r : Records) → AddsFolder f m m' → contents_in m' r ≡ with_folder f (contents_in m r)
@@ -185,7 +183,7 @@ is_new m m1 m2 r e e' wal run =
     let none : (g : List ℕ) → get_by_text m g ≡ None = λ g. ap (lookup (is_at (λ k. slice_cmp nat_cmp g (string_bytes k)))) e in
     let no_record : (k : List ℕ) → get_by_text r k ≡ None = λ k. ap (lookup (is_at (λ j. slice_cmp nat_cmp k (string_bytes j)))) e' in
     let stands : (g : List ℕ) → stands_in m2 g ≡ (bytes_eq (codes "wal") g || bytes_eq (codes "run") g) =
-        λ g. run.stands g ∙ ap (cond (bytes_eq (codes "run") g) true) (wal.stands g) ∙ either (bytes_eq (codes "wal") g) (bytes_eq (codes "run") g) (stands_in m g) (ap is_some (none g)) in
+    λ g. run.stands g ∙ ap (cond (bytes_eq (codes "run") g) true) (wal.stands g) ∙ either (bytes_eq (codes "wal") g) (bytes_eq (codes "run") g) (stands_in m g) (ap is_some (none g)) in
     let files : (g q : List ℕ) → file_in m2 g q ≡ None = λ g q. run.files g q ∙ wal.files g q ∙ ap (λ o. file_at o q) (none g) in
     let records : (k : List ℕ) → record_in r k ≡ None = λ k. ap record_at (no_record k) in
     λ i. record { stands = λ g. stands g i; files = λ g q. files g q i; records = λ k. records k i }

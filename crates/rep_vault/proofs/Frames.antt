@@ -5,7 +5,7 @@ use Rattle.std.proofs.lemmas.Slice.Eq.{bytes_eq-Decides}
 use Rattle.std.specs.Str.{bytes_eq}
 use Rattle.std.specs.List.{list_any}
 use Rattle.rep_vault.specs.declared.store.Change.{Change}
-use Rattle.rep_vault.specs.Contents.{File, Contents, IsSound, set_file, with_folder, renamed, set_record, changed, with_records}
+use Rattle.rep_vault.specs.Contents.{File, Contents, set_file, with_folder, renamed, set_record, changed, with_records}
 
 pub same_text : (xs : List ℕ) → bytes_eq xs xs ≡ true
 same_text xs = (bytes_eq-Decides xs xs).1 refl
@@ -41,7 +41,7 @@ pub file_as_before : (f n : List ℕ) (x : File) (c : Contents) → c.files f n 
 unfolding set_file
 file_as_before f n x c there =
     let each : (g m : List ℕ) → cond (bytes_eq f g && bytes_eq n m) (Some x) (c.files g m) ≡ c.files g m =
-        λ g m. as_was (bytes_eq f g && bytes_eq n m) (Some x) (c.files g m) (λ e. let both = and_parts (bytes_eq f g) (bytes_eq n m) e in subst (λ h. c.files h m ≡ Some x) ((bytes_eq-Decides f g).0 both.0) (subst (λ k. c.files f k ≡ Some x) ((bytes_eq-Decides n m).0 both.1) there)) in
+    λ g m. as_was (bytes_eq f g && bytes_eq n m) (Some x) (c.files g m) (λ e. let both = and_parts (bytes_eq f g) (bytes_eq n m) e in subst (λ h. c.files h m ≡ Some x) ((bytes_eq-Decides f g).0 both.0) (subst (λ k. c.files f k ≡ Some x) ((bytes_eq-Decides n m).0 both.1) there)) in
     ap (λ files. record c { files = files }) (λ i g m. each g m i)
 
 -- ---- a new folder

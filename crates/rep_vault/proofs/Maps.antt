@@ -1,6 +1,6 @@
 -- What changes of maps with texts as keys do to folders, files and records.
-use Rattle.std.proofs.Common.{◌≡◌, ℕ, Bool, ◌||◌, true, false, cond, List, [], ◌∷◌, ◌++◌, map, Option, Some, None, refl, ap, sym, ◌∙◌, subst, true≢false, string_bytes, is_some, rules, arith}
-use Rattle.std.specs.Prelude.{String, IsSome}
+use Rattle.std.proofs.Common.{◌≡◌, ℕ, Bool, ◌||◌, true, false, cond, List, [], ◌∷◌, map, Option, Some, None, refl, ap, sym, ◌∙◌, subst, true≢false, string_bytes, is_some}
+use Rattle.std.specs.Prelude.{String}
 use Rattle.std.specs.Global.{Global}
 use Rattle.std.specs.Option.{option_map, option_copied_mut}
 use Rattle.std.specs.Borrow.{MutBor}
@@ -13,7 +13,7 @@ use Rattle.std.specs.List.Sorted.{IsStrictlySortedBy}
 use Rattle.std.specs.Map.{lookup, keys_of}
 use Rattle.std.specs.BTreeMap.{BTreeMap, get_by_text, UpdatesBy, is_at, keys}
 use Rattle.std.specs.declared.cmp.Ordering.TheVariants.{Less}
-use Rattle.std.proofs.lemmas.Bool.{cond_both, cond-true, cond-false, false_from_ne_true}
+use Rattle.std.proofs.lemmas.Bool.{cond-true, cond-false, false_from_ne_true}
 use Rattle.std.proofs.lemmas.Slice.Eq.{bytes_eq-Decides}
 use Rattle.std.proofs.lemmas.Map.Text.{btree_map_updates_text, is_eq-slice_cmp}
 use Rattle.rep_vault.specs.declared.folder.Folder.{Folder}
@@ -23,7 +23,7 @@ use Rattle.rep_vault.specs.Calls.{AreNames}
 use Rattle.rep_vault.specs.Stored.{shown}
 use Rattle.rep_vault.specs.Laws.{none}
 use Rattle.rep_vault.proofs.Frames.{same_text}
-use Rattle.rep_vault.specs.Folders.{Folders, Files, file_of, file_at, file_in, stands_in, SetsFile, KeepsFiles, AddsFolder, MovesFolder}
+use Rattle.rep_vault.specs.Folders.{Folders, file_of, file_at, stands_in, SetsFile, AddsFolder, MovesFolder}
 
 -- the map has w at that text, and what it had at the others
 pub record PutsAt {X : Type 0} (n : List ℕ) (w : Option X) (m m' : BTreeMap (String Global) X) : Type 0 where
@@ -91,7 +91,7 @@ added_files false old new x q empty free e = ap (λ o. file_at o q) e
 pub adds_folder : (f : List ℕ) (x : Folder) (m m' : Folders) → ((q : List ℕ) → file_of x q ≡ None) → stands_in m f ≡ false → PutsAt f (Some x) m m' → AddsFolder f m m'
 adds_folder f x m m' empty free p = record {
   stands = λ g. added_stands (bytes_eq f g) (get_by_text m g) (get_by_text m' g) x (p.at g);
-  files = λ g q. added_files (bytes_eq f g) (get_by_text m g) (get_by_text m' g) x q (empty q) (λ b. none (get_by_text m g) (subst (λ h. stands_in m h ≡ false) ((bytes_eq-Decides f g).0 b) free)) (p.at g)
+  files = λ g q. added_files (bytes_eq f g) (get_by_text m g) (get_by_text m' g) x q (empty q) (λ b. none (get_by_text m g) (subst (λ h. stands_in m h ≡ false) ((bytes_eq-Decides f g).0 b) free)) (p.at g);
 }
 
 -- a folder is moved: a place is made, the folder is taken out, and put into its place
@@ -122,5 +122,5 @@ moved_files false false o o1 o2 o3 there x y q e1 e2 e3 e = ap (λ z. file_at z 
 pub moves_folder : (f to : List ℕ) (x y : Folder) (m m1 m2 m3 : Folders) → Some y ≡ get_by_text m f → PutsAt to (Some x) m m1 → PutsAt f None m1 m2 → PutsAt to (Some y) m2 m3 → MovesFolder f to m m3
 moves_folder f to x y m m1 m2 m3 e p1 p2 p3 = record {
   stands = λ g. moved_stands (bytes_eq to g) (bytes_eq f g) (get_by_text m g) (get_by_text m1 g) (get_by_text m2 g) (get_by_text m3 g) x y (p1.at g) (p2.at g) (p3.at g);
-  files = λ g q. moved_files (bytes_eq to g) (bytes_eq f g) (get_by_text m g) (get_by_text m1 g) (get_by_text m2 g) (get_by_text m3 g) (get_by_text m f) x y q (p1.at g) (p2.at g) (p3.at g) e
+  files = λ g q. moved_files (bytes_eq to g) (bytes_eq f g) (get_by_text m g) (get_by_text m1 g) (get_by_text m2 g) (get_by_text m3 g) (get_by_text m f) x y q (p1.at g) (p2.at g) (p3.at g) e;
 }

@@ -1,14 +1,12 @@
 -- What the plans and counts are after a call of a kind.
-use Rattle.std.proofs.Common.{◌≡◌, ℕ, ◌+◌, ◌-◌, ◌^◌, ◌<◌, ◌≤◌, Bool, true, false, Option, Some, None, Result, Ok, Err, refl, ap, sym, ◌∙◌, arith, rules, subst, true≢false}
-use Rattle.std.specs.Prelude.{IsErrOf, is_some, IsSome, OnOk, OnErr, IfSome}
+use Rattle.std.proofs.Common.{◌≡◌, ℕ, ◌-◌, ◌^◌, ◌<◌, Bool, true, false, Some, None, Result, Ok, Err, ap, sym, arith, rules, subst, true≢false}
+use Rattle.std.specs.Prelude.{IsErrOf, IsSome, OnOk, OnErr, IfSome}
 use Rattle.rep_types.specs.declared.memory.Memory as rep
 use Rattle.rep_types.specs.declared.state.Call.{Call}
-use Rattle.rep_types.specs.declared.state.Call.TheVariants as call
 use Rattle.rep_vault.specs.declared.store.VaultError.{VaultError}
 use Rattle.rep_vault.specs.declared.store.VaultError.TheVariants.{Failed, Gone, Sealed, Exists, Memory}
-use Rattle.rep_vault.specs.declared.kind.Kind.{Kind}
 use Rattle.rep_vault.specs.declared.plans.Plans.{Plans}
-use Rattle.rep_vault.specs.Tallies.{CountsNone, Counted, Tally, PlansOne, total}
+use Rattle.rep_vault.specs.Tallies.{CountsNone, Counted, PlansOne, total}
 use Rattle.rep_vault.specs.Kinds.{ahead}
 use Rattle.rep_vault.specs.Plans.{Runs, Strikes, PassesOne, PlansAt, AreUnchanged, of_kind, faults_of, planned_of}
 use Rattle.rep_vault.specs.Laws.{fit}

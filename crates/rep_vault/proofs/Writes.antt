@@ -1,19 +1,15 @@
 -- A file that is changed in its folder: a file's calls are the store's.
-use Rattle.std.proofs.Common.{◌≡◌, ℕ, Bool, true, false, ◌&&◌, cond, List, Option, Some, None, Result, Ok, Err, refl, ap, sym, ◌∙◌, subst, take}
-use Rattle.std.specs.Global.{Global}
+use Rattle.std.proofs.Common.{◌≡◌, ℕ, List, Option, Some, None, Result, Ok, Err, ap, ◌∙◌}
 use Rattle.std.specs.Option.{option_map}
-use Rattle.std.specs.Str.{bytes_eq}
-use Rattle.std.specs.BTreeMap.{BTreeMap, get_by_text}
-use Rattle.std.proofs.lemmas.Bool.{and_parts}
-use Rattle.std.proofs.lemmas.Slice.Eq.{bytes_eq-Decides}
+use Rattle.std.specs.BTreeMap.{get_by_text}
 use Rattle.rep_vault.specs.declared.store.VaultError.{VaultError}
 use Rattle.rep_vault.specs.declared.store.VaultError.TheVariants.{Failed, Gone, Sealed, Exists, Memory}
 use Rattle.rep_vault.specs.declared.folder.Folder.{Folder}
 use Rattle.rep_vault.specs.declared.file.MemFile.{MemFile}
 use Rattle.rep_vault.specs.Contents.{File, Contents, set_file}
-use Rattle.rep_vault.specs.Calls.{IsOpen, IsShut, Appends, Syncs, Seals}
+use Rattle.rep_vault.specs.Calls.{Appends, Syncs, Seals}
 use Rattle.rep_vault.specs.Stored.{shown, AppendsTo, SyncsIt, SealsIt}
-use Rattle.rep_vault.specs.Folders.{Folders, Records, file_of, SetsFile, KeepsFiles}
+use Rattle.rep_vault.specs.Folders.{Folders, Records}
 use Rattle.rep_vault.specs.Memory.{contents_in, AppendsFirst, SealsAt}
 use Rattle.rep_vault.proofs.Maps.{PutsAt, sets_file}
 use Rattle.rep_vault.proofs.Contents.{sets_one, keeps, set_contents, keep_contents, file_there}
@@ -27,7 +23,7 @@ pub record Writes (f n : List ℕ) (x y : File) (old new : Contents) : Type 0 wh
 pub writes : (f n : List ℕ) (m m' : Folders) (r : Records) (d d' : Folder) (x y : MemFile) → get_by_text m f ≡ Some d → get_by_text d.files n ≡ Some x → PutsAt f (Some d') m m' → PutsAt n (Some y) d.files d'.files → Writes f n (shown x) (shown y) (contents_in m r) (contents_in m' r)
 writes f n m m' r d d' x y there file p q = record {
   there = file_there f n m r d there ∙ ap (option_map shown) file;
-  wrote = set_contents f n (Some (shown y)) m m' r (sets_one f n m m' d d' (Some (shown y)) there p (sets_file n (Some y) d d' q))
+  wrote = set_contents f n (Some (shown y)) m m' r (sets_one f n m m' d d' (Some (shown y)) there p (sets_file n (Some y) d d' q));
 }
 
 now_as : (f n : List ℕ) (x y z : File) (old new : Contents) → Writes f n x y old new → y ≡ z → new ≡ set_file f n (Some z) old

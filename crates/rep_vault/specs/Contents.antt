@@ -41,7 +41,7 @@ with_folder f c = record c { stands = λ g. if bytes_eq f g then true else c.sta
 unfoldable pub renamed : List ℕ → List ℕ → Contents → Contents
 renamed f to c = record c {
   stands = λ g. if bytes_eq to g then true else (if bytes_eq f g then false else c.stands g);
-  files = λ g m. if bytes_eq to g then c.files f m else (if bytes_eq f g then None else c.files g m)
+  files = λ g m. if bytes_eq to g then c.files f m else (if bytes_eq f g then None else c.files g m);
 }
 
 -- the record of that key is so, and the others stay

@@ -1,6 +1,6 @@
 -- What holds of each store in memory.
-use Rattle.std.specs.Prelude.{◌≡◌, ◌≤◌, ◌<◌, ◌^◌, ◌+◌, ℕ, Bool, true, false, List, length, Option, Some, None, is_some, refl}
-use Rattle.std.proofs.Common.{ap, sym, subst, arith, true≢false}
+use Rattle.std.specs.Prelude.{◌≡◌, ◌≤◌, ◌<◌, ◌^◌, ℕ, true, false, List, length, Option, Some, None, is_some, refl}
+use Rattle.std.proofs.Common.{ap, subst, arith, true≢false}
 use Rattle.std.specs.BTreeMap.{get_by_text}
 use Rattle.std.specs.Option.{option_map}
 use Rattle.rep_vault.specs.declared.folder.Folder.{Folder}
@@ -36,7 +36,7 @@ unfolding contents_in
 sound v = record {
   housed = λ f n gone. ap (λ o. file_at o n) (none (get_by_text v.folders f) gone);
   synced = λ f n x e. (found (get_by_text v.folders f) n x e).synced;
-  sealed = λ f n x e. (found (get_by_text v.folders f) n x e).sealed
+  sealed = λ f n x e. (found (get_by_text v.folders f) n x e).sealed;
 }
 
 pub few : (p : Plans) → total (faults_of p) ≤ planned_of p

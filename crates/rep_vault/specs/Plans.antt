@@ -1,5 +1,5 @@
 -- The plans and faults of all kinds of calls.
-use Rattle.std.specs.Prelude.{ℕ, ◌≡◌, ◌+◌, ◌≤◌, ◌==◌, Bool, true, false, Option, Some, None, IsSome, Result, Ok, Err, if◌then◌else◌}
+use Rattle.std.specs.Prelude.{ℕ, ◌≡◌, ◌+◌, ◌≤◌, ◌==◌, Bool, true, false, None, IsSome, Result, Ok, Err, if◌then◌else◌}
 use Rattle.std.specs.Borrow.{Lends, MutBor, Fml}
 use Rattle.rep_types.specs.declared.state.Call.{Call}
 use Rattle.rep_types.specs.declared.state.Call.TheVariants as call
@@ -43,7 +43,7 @@ with_kind k p x = record {
   rename = chosen call.Rename k x p.rename;
   remove = chosen call.Remove k x p.remove;
   list = chosen call.List k x p.list;
-  put = chosen call.Put k x p.put
+  put = chosen call.Put k x p.put;
 }
 
 -- the plans end with the last value behind r as that kind's

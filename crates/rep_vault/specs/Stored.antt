@@ -1,5 +1,5 @@
 -- A file in memory, and what calls do to it.
-use Rattle.std.specs.Prelude.{ℕ, ◌≡◌, ◌+◌, Bool, true, false, List, ◌++◌, length, take, min, Option, Some, None, Result, Ok, Err, if◌then◌else◌}
+use Rattle.std.specs.Prelude.{ℕ, ◌≡◌, ◌+◌, true, false, List, length, take, min, Option, Some, None, Result, Ok, Err, if◌then◌else◌}
 use Rattle.std.specs.Option.{unwrap_or}
 use Rattle.rep_vault.specs.declared.file.MemFile.{MemFile}
 use Rattle.rep_vault.specs.declared.store.VaultError.{VaultError}

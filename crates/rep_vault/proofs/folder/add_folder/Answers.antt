@@ -1,4 +1,4 @@
-use Rattle.std.proofs.Common.{rules, Some}
+use Rattle.std.proofs.Common.{Some}
 use Rattle.rep_vault.proofs.Maps.{puts_key, adds_folder}
 use Rattle.rep_vault.proofs.folder.add_folder.Goals as goal
 

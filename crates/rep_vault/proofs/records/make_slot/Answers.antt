@@ -1,4 +1,4 @@
-use Rattle.std.proofs.Common.{rules, None, Some, string_bytes}
+use Rattle.std.proofs.Common.{rules, None, Some}
 use Rattle.rep_vault.proofs.Maps.{puts_key}
 use Rattle.rep_vault.proofs.Slots.{made, still}
 use Rattle.rep_vault.proofs.records.make_slot.Goals as goal

@@ -1,4 +1,3 @@
-use Rattle.rep_vault.specs.Folders.{MakesChanges}
 use Rattle.rep_vault.proofs.Slots.{all_made}
 use Rattle.rep_vault.proofs.records.put_records.Goals as goal
 

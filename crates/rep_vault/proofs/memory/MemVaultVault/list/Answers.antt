@@ -1,6 +1,4 @@
-use Rattle.std.proofs.Common.{Some, ap}
 use Rattle.rep_types.specs.declared.state.Call.TheVariants.{List}
-use Rattle.rep_vault.specs.Stored.{shown}
 use Rattle.rep_vault.proofs.Runs.{struck_counted, struck_follows, passed_counted, passed_follows}
 use Rattle.rep_vault.proofs.Contents.{a_folder, no_folder, got_folder, got_no_folder, names_there}
 use Rattle.rep_vault.proofs.memory.MemVaultVault.list.Goals as goal

@@ -1,6 +1,4 @@
-use Rattle.std.proofs.Common.{refl}
 use Rattle.rep_types.specs.declared.state.Call.TheVariants.{Put}
-use Rattle.rep_vault.specs.Stored.{shown}
 use Rattle.rep_vault.proofs.Runs.{struck_counted, struck_follows, passed_counted, passed_follows}
 use Rattle.rep_vault.proofs.Contents.{records_kept, records_made}
 use Rattle.rep_vault.proofs.memory.MemVaultVault.put_all.Goals as goal

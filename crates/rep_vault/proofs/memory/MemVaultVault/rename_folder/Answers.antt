@@ -1,6 +1,5 @@
 use Rattle.std.proofs.Common.{refl}
 use Rattle.rep_types.specs.declared.state.Call.TheVariants.{Rename}
-use Rattle.rep_vault.specs.Stored.{shown}
 use Rattle.rep_vault.proofs.Runs.{struck_counted, struck_follows, passed_counted, passed_follows}
 use Rattle.rep_vault.proofs.Contents.{stands_as, unchanged, moved}
 use Rattle.rep_vault.proofs.memory.MemVaultVault.rename_folder.Goals as goal

@@ -1,6 +1,6 @@
 use Rattle.std.proofs.Common.{rules, Some, ap}
 use Rattle.rep_types.specs.declared.state.Call.TheVariants.{Sync}
-use Rattle.rep_vault.specs.Memory.{contents_in, ahead_in}
+use Rattle.rep_vault.specs.Memory.{contents_in}
 use Rattle.rep_vault.proofs.Maps.{puts_at, lent, lent_none}
 use Rattle.rep_vault.proofs.Runs.{counted, follows}
 use Rattle.rep_vault.proofs.Writes.{writes, no_name, syncs}
