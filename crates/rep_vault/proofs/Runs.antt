@@ -17,12 +17,12 @@ one_more k old new passes due = grind (arith, passes.here.faults)
 
 untold : {T : Type 0} (k : Call) (p q : Plans) (result : Result T VaultError) → (IsErrOf result Failed → ⊥) → q ≡ p → Counted k (tally_in p) (tally_in q) result
 unfolding tally_in
-untold k p q result other e = record { kept = λ j. omega (arith, ap (λ x. faults_of x j) e); failed = λ h. absurd (other h); most = λ h. absurd (other h); planned = ap (λ x. Some (planned_of x)) e }
+untold k p q result other e = record { kept = λ j. omega (arith, ap (λ x. faults_of x j) e); failed = λ h. absurd (other h); most = λ h. absurd (other h); memory = λ _ j. ap (λ x. faults_of x j) e; planned = ap (λ x. Some (planned_of x)) e }
 
 pub counted : {T : Type 0} (k : Call) (p q : Plans) (result : Result T VaultError) → Runs k p q result → Counted k (tally_in p) (tally_in q) result
 unfolding tally_in
-counted k p q (Ok x) runs = record { kept = runs.1.kept; failed = search rules; most = search rules; planned = ap Some runs.1.planned }
-counted k p q (Err Failed) runs = record { kept = runs.1.kept; failed = λ _. one_more k p q runs.1 runs.0; most = λ _. omega (arith, fit p); planned = ap Some runs.1.planned }
+counted k p q (Ok x) runs = record { kept = runs.1.kept; failed = search rules; most = search rules; memory = search rules; planned = ap Some runs.1.planned }
+counted k p q (Err Failed) runs = record { kept = runs.1.kept; failed = λ _. one_more k p q runs.1 runs.0; most = λ _. omega (arith, fit p); memory = λ h. cc; planned = ap Some runs.1.planned }
 counted k p q (Err Gone) runs = untold k p q (Err Gone) (λ h. cc) runs
 counted k p q (Err Exists) runs = untold k p q (Err Exists) (λ h. cc) runs
 counted k p q (Err Sealed) runs = untold k p q (Err Sealed) (λ h. cc) runs

@@ -4,7 +4,7 @@ use Rattle.std.specs.Option.{option_map}
 use Rattle.rep_types.specs.declared.state.Call.{Call}
 use Rattle.rep_types.specs.declared.state.Call.TheVariants as call
 use Rattle.rep_vault.specs.declared.store.VaultError.{VaultError}
-use Rattle.rep_vault.specs.declared.store.VaultError.TheVariants.{Failed}
+use Rattle.rep_vault.specs.declared.store.VaultError.TheVariants.{Failed, Memory}
 
 -- the failed calls of each kind, and how many failures were planned so far, where that is told
 pub record Tally : Type 0 where
@@ -33,11 +33,13 @@ pub record IsBounded (t : Tally) : Type 0 where
   pub fits : total t.faults < 2 ^ 64
   pub planned : IfSome t.planned (λ n. total t.faults ≤ n)
 
--- No count falls. A call that failed raised the count of its kind, and none fails at the greatest sum. Nothing is planned.
+-- No count falls. A call that failed raised the count of its kind, and none fails at the greatest sum. For want of memory no
+-- count rises. Nothing is planned.
 pub record Counted {T : Type 0} (kind : Call) (old new : Tally) (result : Result T VaultError) : Type 0 where
   pub kept : (k : Call) → old.faults k ≤ new.faults k
   pub failed : IsErrOf result Failed → old.faults kind < new.faults kind
   pub most : IsErrOf result Failed → total old.faults < 2 ^ 64 - 1
+  pub memory : IsErrOf result Memory → (k : Call) → new.faults k ≡ old.faults k
   pub planned : new.planned ≡ old.planned
 
 -- one more failure is planned

@@ -10,10 +10,11 @@ use Rattle.rep_vault.specs.Contents.{File, Contents, with_file}
 use Rattle.rep_vault.specs.Tallies.{Tally}
 use Rattle.rep_vault.specs.Calls.{IsOpen, IsKept, AreNames, longer, synced_whole, cut_at, part}
 
--- no count falls, a call that failed raised its count, and nothing is planned
+-- No count falls, and a call that failed raised its count. For want of memory no count rises. Nothing is planned.
 pub record Tries (kind : Call) (old new : Tally) (result : Tried) : Type 0 where
   pub kept : (k : Call) → old.faults k ≤ new.faults k
   pub failed : result ≡ NotDone → old.faults kind < new.faults kind
+  pub memory : result ≡ NoMemory → (k : Call) → new.faults k ≡ old.faults k
   pub planned : new.planned ≡ old.planned
 
 -- done, the contents are these; else they stay
@@ -49,6 +50,7 @@ GivesNames files old new NoMemory = new ≡ old
 pub record TriesSeal (old new : Tally) (result : TriedSeal) : Type 0 where
   pub kept : (k : Call) → old.faults k ≤ new.faults k
   pub failed : result ≡ seal.NotDone → old.faults call.Seal < new.faults call.Seal
+  pub memory : result ≡ seal.NoMemory → (k : Call) → new.faults k ≡ old.faults k
   pub planned : new.planned ≡ old.planned
 
 abbrev pub SealsThere : List ℕ → List ℕ → Contents → Contents → TriedSeal → Type 0

@@ -1,3 +1,7 @@
+ghost use Rattle.std.specs.Prelude.{◌≡◌, ℕ, ◌+◌, ◌*◌, ◌-◌, ◌^◌, ◌<◌, ◌≤◌, true, is_some};
+ghost use Rattle.std.specs.Ordering.{nat_cmp};
+ghost use Rattle.std.specs.BTreeMap.{get, btree_map_len};
+
 use rep_types::Memory;
 use std::alloc::Global;
 use std::collections::BTreeMap;
@@ -22,10 +26,6 @@ pub struct Kind {
     ghost later: { (n : ℕ) → is_some (get nat_cmp due n) ≡ true → calls < n },
     ghost within: { (n : ℕ) → is_some (get nat_cmp due n) ≡ true → n ≤ last },
 }
-
-ghost use Rattle.std.specs.Prelude.{◌≡◌, ℕ, ◌+◌, ◌*◌, ◌-◌, ◌^◌, ◌<◌, ◌≤◌, true, is_some};
-ghost use Rattle.std.specs.Ordering.{nat_cmp};
-ghost use Rattle.std.specs.BTreeMap.{get, btree_map_len};
 
 impl Kind {
     ghost use Rattle.std.specs.Prelude.{None, OnOk, OnErr};
