@@ -5,6 +5,7 @@ use Rattle.std.proofs.lemmas.Slice.Eq.{bytes_eq-Decides}
 use Rattle.std.specs.Str.{bytes_eq}
 use Rattle.std.specs.List.{list_any}
 use Rattle.rep_vault.specs.declared.store.Change.{Change}
+use Rattle.rep_vault.specs.Calls.{IsOpen}
 use Rattle.rep_vault.specs.Contents.{File, Contents, set_file, with_folder, renamed, set_record, changed, with_records}
 
 pub same_text : (xs : List ℕ) → bytes_eq xs xs ≡ true
@@ -124,3 +125,7 @@ changed_other [] records q e = refl
 changed_other (c ∷ cs) records q e =
     let apart = neither (bytes_eq c.key q) (list_any (λ d. bytes_eq d.key q) cs) e in
     changed_other cs (set_record c.key c.value records) q apart.1 ∙ cond-false (bytes_eq c.key q) c.value (records q) apart.0
+
+-- ---- a file that is known
+pub now_open : (f n : List ℕ) (x : File) (old new : Contents) → new ≡ set_file f n (Some x) old → x.sealed ≡ false → IsOpen new f n x
+now_open f n x old new is unsealed = record { there = ap (λ c. c.files f n) is ∙ file_here f n (Some x) old; unsealed = unsealed }

@@ -1,3 +1,5 @@
+ghost use Rattle.std.specs.Prelude.{◌≡◌, OnOk};
+
 use super::*;
 use rep_types::{Bytes, Call, Text, Texts};
 use std::alloc::Global;
@@ -129,5 +131,46 @@ fn a_keep_waits_for_a_seal(rt: HostRuntime) -> Result<(), Fail> {
     assert_eq!(rt; vault.seal(WAL, "1.1")?, 0);
     assert_eq!(rt; vault.seal(WAL, "1.2")?, 3);
     assert_eq!(rt; vault.seal(WAL, "1.3")?, 0);
+    Ok(())
+}
+
+fn done(tried: Tried) -> Result<(), &'static str>
+    ensures { OnOk result (tried ≡ Tried.Done) }
+{
+    match tried {
+        Tried::Done => Ok(()),
+        Tried::NotDone | Tried::NoMemory => Err("not done"),
+    }
+}
+
+#[test]
+#[tactic(auto, unfolding(crate::specs::Contents::set_file, crate::specs::Contents::with_folder))]
+fn tried_calls_on_files_are_done(rt: HostRuntime) -> Result<(), Fail> {
+    let alloc = rt.alloc();
+    let mut vault = MemVault::new(alloc)?;
+    let mut out = Bytes::new(alloc);
+    done(try_make(&mut vault, "remote"))?;
+    done(try_create(&mut vault, "remote", "1.1"))?;
+    done(try_append(&mut vault, "remote", "1.1", b"frame"))?;
+    done(try_sync(&mut vault, "remote", "1.1"))?;
+    done(try_read(&mut vault, "remote", "1.1", 0, 9, &mut out))?;
+    assert_eq!(rt; out.as_slice(), b"frame".as_slice());
+    Ok(())
+}
+
+#[test]
+#[tactic(auto, unfolding(crate::specs::Contents::set_file, crate::specs::Contents::with_records, crate::specs::Contents::renamed))]
+fn tried_calls_on_folders_are_done(rt: HostRuntime) -> Result<(), Fail> {
+    let alloc = rt.alloc();
+    let mut vault = MemVault::new(alloc)?;
+    let mut names = Texts::new(alloc);
+    done(try_create(&mut vault, "run", "1"))?;
+    done(try_remove(&mut vault, "run", "1"))?;
+    done(try_create(&mut vault, "run", "2"))?;
+    done(try_rename(&mut vault, "run", "old"))?;
+    done(try_list(&mut vault, "old", &mut names))?;
+    assert_eq!(rt; names.len(), 1);
+    done(try_put(&mut vault, &[]))?;
+    assert!(rt; matches!(try_seal(&mut vault, "old", "2"), TriedSeal::At(0)));
     Ok(())
 }

@@ -8,7 +8,7 @@ use crate::{Change, Vault, VaultError};
 use rep_types::{Bytes, Texts};
 
 /// How a call went that nothing but a fault or want of memory could stop.
-#[derive(Clone, Copy, Debug, PartialEq, Eq)]
+#[derive(Clone, Copy)]
 pub enum Tried {
     Done,
     NotDone,
@@ -16,7 +16,7 @@ pub enum Tried {
 }
 
 /// How a seal went that nothing but a fault or want of memory could stop. At a length in bytes.
-#[derive(Clone, Copy, Debug, PartialEq, Eq)]
+#[derive(Clone, Copy)]
 pub enum TriedSeal {
     At(u64),
     NotDone,
