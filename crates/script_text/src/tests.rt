@@ -8,6 +8,10 @@ use std::test::Fail;
 const OPENING: &[u8] =
     b"server a 1\nserver b 1\ntable a t f/1\ntable b t f/1\nopen a 1 1\nopen b 1 1\npeer a 1 plain t\n";
 
+// A put with the longest row, timestamp and value.
+const LONGEST: &[u8] =
+    b"put a t 0123456789abcdefghijklmnopqrstuvwxyz_.0123456789abcdefghijklmnop f:q@18446744073709551615=0123456789ABCDEFGHIJKLMNOPQR_.z\n";
+
 // The first line outside the grammar, counted from 1, or 0 where there is none.
 fn fault_of(alloc: Global, script: &[u8]) -> u32
     requires { length script.now < 1000000 }
@@ -41,10 +45,7 @@ fn the_first_line_outside_the_grammar_is_told(rt: HostRuntime) -> Result<(), Fai
         0
     );
     assert_eq!(rt; later_fault_of(alloc, b"sync a 1\nship a 1 2\n")?, 9);
-    assert_eq!(rt;
-        later_fault_of(alloc, b"put a t r.1 f:q@18446744073709551615=Z_.")?,
-        0
-    );
+    assert_eq!(rt; later_fault_of(alloc, LONGEST)?, 0);
     assert_eq!(rt; later_fault_of(alloc, b"put a t r1 f:q@0=")?, 0);
     assert_eq!(rt; later_fault_of(alloc, b"put a t r1 f:q@10")?, 8);
     assert_eq!(rt; later_fault_of(alloc, b"put a t r1 f:q@01=v")?, 8);
