@@ -7,7 +7,5 @@ pub mod Markers
 pub mod Newly
 pub mod Puts
 pub mod Replacing
+pub mod Runs
 pub mod Seeing
-mod Journals
-mod Legal
-mod Openings

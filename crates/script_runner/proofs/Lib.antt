@@ -1,4 +1,3 @@
 pub mod Performing
-pub mod Runs
 pub mod Serving
 pub mod Steps

@@ -10,7 +10,7 @@ use Rattle.rep_model.specs.Rows.{row}
 use Rattle.rep_model.specs.Runs.{Counts, no_faults, Tells, after, state_of}
 use Rattle.rep_model.specs.Words.{is_worded}
 use Rattle.script_runner.specs.Pair.{IsPair}
-use Rattle.script_runner.proofs.Runs.{legal-push, state-push, faults-push}
+use Rattle.rep_model.proofs.Runs.{legal-push, state-push, faults-push}
 
 abbrev made : Event → Reply → ℕ → Record
 made e reply actor = record { event = e; reply = reply; faults_a = 0; faults_b = 0; actor = actor }

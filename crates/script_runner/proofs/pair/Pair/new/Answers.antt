@@ -1,5 +1,5 @@
 use Rattle.std.proofs.Common.{sym, arith}
-use Rattle.script_runner.proofs.Runs.{legal-new, state-new, faults-new}
+use Rattle.rep_model.proofs.Runs.{legal-new, state-new, faults-new}
 use Rattle.script_runner.proofs.pair.Pair.new.Goals as goal
 
 pub invariant_of-result : goal.invariant_of-result

@@ -1,0 +1,53 @@
+use Rattle.worked_runs.proofs.DayOfMovesASplitAndACrash as day_of_moves_a_split_and_a_crash
+use Rattle.worked_runs.proofs.DeliveryStopsAtAClosedRegion as delivery_stops_at_a_closed_region
+use Rattle.worked_runs.proofs.FailedCallsLeaveWhatTheyMust as failed_calls_leave_what_they_must
+use Rattle.worked_runs.proofs.FailedReplayIsMadeAgain as failed_replay_is_made_again
+use Rattle.worked_runs.proofs.FullLogIsRolledShippedAndSwept as full_log_is_rolled_shipped_and_swept
+use Rattle.worked_runs.proofs.KeptTailIsClaimedAndShipped as kept_tail_is_claimed_and_shipped
+use Rattle.worked_runs.proofs.LateFlightIsStale as late_flight_is_stale
+use Rattle.worked_runs.proofs.LostIdsAreUsedAgain as lost_ids_are_used_again
+use Rattle.worked_runs.proofs.MoveHoldsTheNewServerBack as move_holds_the_new_server_back
+use Rattle.worked_runs.proofs.PlainPeerBecomesSerial as plain_peer_becomes_serial
+use Rattle.worked_runs.proofs.PromotionReplaysWhatWasMirrored as promotion_replays_what_was_mirrored
+use Rattle.worked_runs.proofs.RemoteCopyIsSweptOnceShipped as remote_copy_is_swept_once_shipped
+use Rattle.worked_runs.proofs.SplitAndMergeHoldBack as split_and_merge_hold_back
+use Rattle.worked_runs.proofs.laws.worked_runs_are_legal.Goals as goal
+
+pub returns-clause-legal_day_of_moves_a_split_and_a_crash : goal.returns-clause-legal_day_of_moves_a_split_and_a_crash
+returns-clause-legal_day_of_moves_a_split_and_a_crash c = day_of_moves_a_split_and_a_crash.it_is_legal
+
+pub returns-clause-legal_delivery_stops_at_a_closed_region : goal.returns-clause-legal_delivery_stops_at_a_closed_region
+returns-clause-legal_delivery_stops_at_a_closed_region c = delivery_stops_at_a_closed_region.it_is_legal
+
+pub returns-clause-legal_failed_calls_leave_what_they_must : goal.returns-clause-legal_failed_calls_leave_what_they_must
+returns-clause-legal_failed_calls_leave_what_they_must c = failed_calls_leave_what_they_must.it_is_legal
+
+pub returns-clause-legal_failed_replay_is_made_again : goal.returns-clause-legal_failed_replay_is_made_again
+returns-clause-legal_failed_replay_is_made_again c = failed_replay_is_made_again.it_is_legal
+
+pub returns-clause-legal_full_log_is_rolled_shipped_and_swept : goal.returns-clause-legal_full_log_is_rolled_shipped_and_swept
+returns-clause-legal_full_log_is_rolled_shipped_and_swept c = full_log_is_rolled_shipped_and_swept.it_is_legal
+
+pub returns-clause-legal_kept_tail_is_claimed_and_shipped : goal.returns-clause-legal_kept_tail_is_claimed_and_shipped
+returns-clause-legal_kept_tail_is_claimed_and_shipped c = kept_tail_is_claimed_and_shipped.it_is_legal
+
+pub returns-clause-legal_late_flight_is_stale : goal.returns-clause-legal_late_flight_is_stale
+returns-clause-legal_late_flight_is_stale c = late_flight_is_stale.it_is_legal
+
+pub returns-clause-legal_lost_ids_are_used_again : goal.returns-clause-legal_lost_ids_are_used_again
+returns-clause-legal_lost_ids_are_used_again c = lost_ids_are_used_again.it_is_legal
+
+pub returns-clause-legal_move_holds_the_new_server_back : goal.returns-clause-legal_move_holds_the_new_server_back
+returns-clause-legal_move_holds_the_new_server_back c = move_holds_the_new_server_back.it_is_legal
+
+pub returns-clause-legal_plain_peer_becomes_serial : goal.returns-clause-legal_plain_peer_becomes_serial
+returns-clause-legal_plain_peer_becomes_serial c = plain_peer_becomes_serial.it_is_legal
+
+pub returns-clause-legal_promotion_replays_what_was_mirrored : goal.returns-clause-legal_promotion_replays_what_was_mirrored
+returns-clause-legal_promotion_replays_what_was_mirrored c = promotion_replays_what_was_mirrored.it_is_legal
+
+pub returns-clause-legal_remote_copy_is_swept_once_shipped : goal.returns-clause-legal_remote_copy_is_swept_once_shipped
+returns-clause-legal_remote_copy_is_swept_once_shipped c = remote_copy_is_swept_once_shipped.it_is_legal
+
+pub returns-clause-legal_split_and_merge_hold_back : goal.returns-clause-legal_split_and_merge_hold_back
+returns-clause-legal_split_and_merge_hold_back c = split_and_merge_hold_back.it_is_legal

@@ -1,0 +1,14 @@
+pub mod DayOfMovesASplitAndACrash
+pub mod DeliveryStopsAtAClosedRegion
+pub mod FailedCallsLeaveWhatTheyMust
+pub mod FailedReplayIsMadeAgain
+pub mod FullLogIsRolledShippedAndSwept
+pub mod KeptTailIsClaimedAndShipped
+pub mod LateFlightIsStale
+pub mod LostIdsAreUsedAgain
+pub mod MoveHoldsTheNewServerBack
+pub mod Openings
+pub mod PlainPeerBecomesSerial
+pub mod PromotionReplaysWhatWasMirrored
+pub mod RemoteCopyIsSweptOnceShipped
+pub mod SplitAndMergeHoldBack
