@@ -1,0 +1,11 @@
+pub mod Calls
+pub mod Contents
+pub mod Folders
+pub mod Kinds
+pub mod Laws
+pub mod Memory
+pub mod New
+pub mod Plans
+pub mod Stored
+pub mod Tallies
+pub mod Tries
