@@ -6,12 +6,14 @@ use Rattle.std.proofs.lemmas.List.Sums.{sum_by_push, sum-map}
 use Rattle.std.proofs.lemmas.List.Concat.{length-flat_map}
 use Rattle.std.proofs.lemmas.Grind.{flat_map-append}
 use Rattle.rep_types.specs.declared.entry.Entry.{Entry}
+use Rattle.wal_entry.specs.Length.{frame_length_of}
 use Rattle.wal_entry.specs.Spelling.{spelling}
+use Rattle.wal_entry.proofs.Verdicts.{length-spelling}
 use Rattle.rep_vault.specs.Contents.{File, empty_file, Contents, with_file}
 use Rattle.rep_vault.specs.Calls.{IsOpen, longer, synced_whole}
 use Rattle.rep_vault.proofs.Frames.{file_here, file_other, stands_file, records_file, file_as_before}
-use Rattle.wal_roll.specs.Log.{Log, LogValue, Tail, Torn, Holds, IsLog, IsWriter, wal, log_name, frames, frame_size, writer_of}
-use Rattle.wal_roll.specs.Steps.{OnlyFile, pushed, broken_by, settled}
+use Rattle.wal_roll.specs.Log.{Log, LogValue, Tail, Torn, Holds, IsLog, IsWriter, wal, log_name, frames, frame_size, used_of, writer_of}
+use Rattle.wal_roll.specs.Steps.{OnlyFile, new_log, pushed, broken_by, settled}
 
 pub sum_more : (xs : List ℕ) (y : ℕ) → sum (xs ++ y ∷ []) ≡ sum xs + y
 sum_more xs y = sum_by_push (λ x. x) xs y
@@ -47,6 +49,20 @@ same_contents f n old new is = record {
   stands = ap (λ c. c.stands) is;
   records = ap (λ c. c.records) is;
 }
+
+pub created : (old new : Contents) (w : LogValue) (server number : ℕ) (n : List ℕ) → n ≡ log_name server number → new ≡ with_file wal n empty_file old → w ≡ writer_of (new_log server number) → IsWriter new w (new_log server number)
+created old new w server number n named is made = record {
+  same = made;
+  file = record {
+    file = empty_file;
+    there = ap (λ c. c.files wal (log_name server number)) is ∙ (ap (λ m. (with_file wal n empty_file old).files wal m) (sym named) ∙ file_here wal n (Some empty_file) old);
+    holds = record { unsealed = refl; synced = refl; rest = []; bytes = refl; tail = refl };
+  };
+}
+
+-- what a writer that isn't broken tells of its log, and of an entry's frame
+pub told : (old : Contents) (v w : LogValue) (log : Log) (used need : ℕ) (e : Entry) → v ≡ w → IsWriter old w log → v.broken ≡ false → used ≡ used_of v → need ≡ frame_length_of e → (log.broken ≡ false) × (used ≡ used_of w) × (need ≡ frame_size e)
+told old v w log used need e is writer whole all size = (ap (λ (u : LogValue). u.broken) (sym writer.same ∙ sym is) ∙ whole, all ∙ ap used_of is, size ∙ sym (length-spelling e))
 
 -- the file is the one that was opened
 module _ (old : Contents) (w : LogValue) (log : Log) (writer : IsWriter old w log) where
