@@ -1,5 +1,5 @@
 -- A log after a call on its file.
-use Rattle.std.proofs.Common.{◌≡◌, ℕ, ◌+◌, ◌≤◌, Bool, true, false, List, [], ◌∷◌, ◌++◌, length, take, map, sum, Option, Some, None, IfSome, ◌≢◌, refl, ap, sym, ◌∙◌, subst, arith, append_assoc, append-nil, length-append}
+use Rattle.std.proofs.Common.{◌≡◌, ℕ, ◌+◌, true, false, List, [], ◌∷◌, ◌++◌, length, take, map, sum, Option, Some, None, IfSome, ◌≢◌, refl, ap, sym, ◌∙◌, subst, arith, append_assoc, append-nil, length-append}
 use Rattle.std.proofs.lemmas.Option.{same_Some}
 use Rattle.std.proofs.lemmas.List.{map-append, length-map}
 use Rattle.std.proofs.lemmas.List.Sums.{sum_by_push, sum-map}
@@ -12,7 +12,7 @@ use Rattle.wal_entry.proofs.Verdicts.{length-spelling}
 use Rattle.rep_vault.specs.Contents.{File, empty_file, Contents, with_file}
 use Rattle.rep_vault.specs.Calls.{IsOpen, longer, synced_whole}
 use Rattle.rep_vault.proofs.Frames.{file_here, file_other, stands_file, records_file, file_as_before}
-use Rattle.wal_roll.specs.Log.{Log, LogValue, Tail, Torn, Holds, IsLog, IsWriter, wal, log_name, frames, frame_size, used_of, writer_of}
+use Rattle.wal_roll.specs.Log.{Log, LogValue, Tail, Holds, IsWriter, wal, log_name, frames, frame_size, used_of, writer_of}
 use Rattle.wal_roll.specs.Steps.{OnlyFile, new_log, pushed, broken_by, settled}
 
 pub sum_more : (xs : List ℕ) (y : ℕ) → sum (xs ++ y ∷ []) ≡ sum xs + y

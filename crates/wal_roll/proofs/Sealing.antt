@@ -1,16 +1,19 @@
 -- What is kept of the frames of a list.
-use Rattle.std.proofs.Common.{◌≡◌, ℕ, zero, suc, ◌+◌, ◌-◌, ◌<◌, ◌≤◌, nat_le, Bool, true, false, cond, List, [], ◌∷◌, ◌++◌, length, take, drop, map, min, Option, Some, refl, ap, sym, ◌∙◌, subst, arith, append_assoc, append-nil, length-append, take-append-drop, leb-true, leb-false, ◌⊎◌, inl, inr}
-use Rattle.std.proofs.lemmas.Bool.{cond_both, cond-true, cond-false}
-use Rattle.std.proofs.lemmas.List.{take_at, take_all, take-append-le, length-take}
+use Rattle.std.proofs.Common.{◌≡◌, ℕ, zero, suc, ◌+◌, ◌-◌, ◌<◌, ◌≤◌, nat_le, Bool, true, false, List, [], ◌∷◌, ◌++◌, length, take, drop, map, sum, Option, Some, refl, ap, sym, ◌∙◌, subst, arith, append_assoc, length-append, take-append-drop, leb-true, leb-false, ◌⊎◌, inl, inr}
+use Rattle.std.specs.List.{All}
+use Rattle.std.proofs.lemmas.List.Elements.{All-head, All-tail}
+use Rattle.std.proofs.lemmas.List.Sums.{sum_by-cons}
+use Rattle.std.proofs.lemmas.Bool.{cond-true, cond-false}
+use Rattle.std.proofs.lemmas.List.{take_all, take-append-le, length-take-le, take-map}
 use Rattle.std.proofs.Math.Seq.{take-append-add}
 use Rattle.rep_types.specs.declared.entry.Entry.{Entry}
 use Rattle.wal_entry.specs.Spelling.{spelling}
 use Rattle.rep_vault.specs.Contents.{File, Contents, with_file}
 use Rattle.rep_vault.proofs.Frames.{file_here}
 use Rattle.rep_vault.specs.Calls.{cut_at}
-use Rattle.wal_roll.specs.Log.{Log, LogValue, Torn, Tail, Holds, IsWriter, wal, log_name, frames, writer_of, frame_size}
-use Rattle.wal_roll.specs.Kept.{whole, IsPart, IsSealed}
-use Rattle.wal_roll.proofs.Logs.{frames-append, opened}
+use Rattle.wal_roll.specs.Log.{Log, LogValue, Tail, Holds, IsWriter, wal, log_name, frames, writer_of, frame_size}
+use Rattle.wal_roll.specs.Kept.{whole, IsPart, IsSealed, kept_log}
+use Rattle.wal_roll.proofs.Logs.{frames-append, sizes, opened}
 
 -- w of these entries stand whole in the first n bytes of their frames, and then a part of the next
 pub record Keeps (n : ℕ) (es : List Entry) (w : ℕ) : Type 0 where
@@ -97,3 +100,21 @@ sealed_at old new v w log n x len count lengths is named there low high made sam
     let file : new.files wal (log_name log.server log.number) ≡ Some (cut_at len x) = ap (λ c. c.files wal (log_name log.server log.number)) made ∙ (ap (λ m. (with_file wal n (cut_at len x) old).files wal m) (sym name) ∙ file_here wal n (Some (cut_at len x)) old) in
     let total : count ≡ whole (len - x.synced) (map frame_size log.pending) = counted ∙ (ap (whole (len - v.synced)) (same_lengths ∙ ap (λ (u : LogValue). u.lengths) same) ∙ ap (λ j. whole (len - j) (map frame_size log.pending)) (ap (λ (u : LogValue). u.synced) same ∙ sym holds.synced)) in
     subst (IsSealed (new.files wal (log_name log.server log.number)) log) (sym total) (seal_keeps log x (new.files wal (log_name log.server log.number)) len holds low high file)
+
+-- lengths that aren't zero
+pub length_first : (n : ℕ) (ls : List ℕ) → All (λ l. 1 ≤ l) ls → n ≤ length ls → n ≤ sum (take n ls)
+length_first zero ls each few = omega arith
+length_first (suc n) [] each few = absurd (omega (arith, few))
+length_first (suc n) (l ∷ ls) each few =
+    let more : sum (take (suc n) (l ∷ ls)) ≡ l + sum (take n ls) = sum_by-cons (λ k. k) l (take n ls) in
+    omega (arith, more, All-head (λ k. 1 ≤ k) l ls each, length_first n ls (All-tail (λ k. 1 ≤ k) l ls each) (omega (arith, few)))
+
+-- the writer of a log that is sealed
+pub kept_writer : (v w w' : LogValue) (log : Log) (n : ℕ) → v ≡ w → w ≡ writer_of log → n ≤ length log.pending → w' ≡ record v { committed = v.committed + n; synced = v.synced + sum (take n v.lengths); lengths = [] } → w' ≡ writer_of (kept_log n log)
+kept_writer v w w' log n is same few made =
+    let c = log.committed in
+    let p = take n log.pending in
+    let many : length c + n ≡ length (c ++ p) = ap (λ k. length c + k) (sym (length-take-le n log.pending few)) ∙ sym (length-append c p) in
+    let sum_is : sum (take n (map frame_size log.pending)) ≡ length (frames p) = ap sum (take-map frame_size n log.pending) ∙ sizes p in
+    let long : length (frames c) + sum (take n (map frame_size log.pending)) ≡ length (frames (c ++ p)) = ap (λ k. length (frames c) + k) sum_is ∙ (sym (length-append (frames c) (frames p)) ∙ ap length (sym (frames-append c p))) in
+    made ∙ (ap (λ (u : LogValue). record u { committed = u.committed + n; synced = u.synced + sum (take n u.lengths); lengths = [] }) (is ∙ same) ∙ (λ i. record { server = log.server; number = log.number; committed = many i; synced = long i; lengths = []; broken = log.broken }))

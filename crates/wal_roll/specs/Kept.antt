@@ -1,5 +1,5 @@
 -- What a seal keeps of a log.
-use Rattle.std.specs.Prelude.{ℕ, ◌+◌, ◌-◌, ◌<◌, ◌≤◌, ◌≡◌, nat_le, Bool, true, List, [], ◌∷◌, ◌++◌, length, take, drop, Option, Some, if◌then◌else◌, Result, Ok, Err}
+use Rattle.std.specs.Prelude.{ℕ, ◌+◌, ◌-◌, ◌<◌, ◌≤◌, ◌≡◌, nat_le, true, List, [], ◌∷◌, ◌++◌, length, take, drop, Option, Some, if◌then◌else◌, Result, Ok, Err}
 use Rattle.rep_types.specs.declared.state.Call.TheVariants as call
 use Rattle.rep_types.specs.declared.entry.Entry.{Entry}
 use Rattle.wal_entry.specs.Spelling.{spelling}

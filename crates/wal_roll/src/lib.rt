@@ -13,3 +13,6 @@ mod writer;
 
 pub use error::LogError;
 pub use writer::LogWriter;
+
+#[cfg(test)]
+mod tests;

@@ -1,4 +1,6 @@
-use Rattle.std.proofs.Common.{◌≡◌, ◌+◌, ◌≤◌, List, ℕ, false, [], ◌∷◌, ◌++◌, length, sum, refl, ap, sym, subst, ◌∙◌, arith, take, length-append}
+use Rattle.std.proofs.Common.{◌≡◌, ◌+◌, ◌≤◌, false, [], ◌∷◌, ◌++◌, length, sum, refl, ap, sym, subst, ◌∙◌, arith, take, length-append}
+use Rattle.std.specs.List.{All}
+use Rattle.std.proofs.lemmas.List.Elements.{All-push}
 use Rattle.rep_vault.specs.Contents.{with_file}
 use Rattle.rep_vault.specs.Calls.{longer}
 use Rattle.wal_entry.specs.Spelling.{spelling}
@@ -19,6 +21,8 @@ invariant_of-self-in-Done g c =
       used = omega (arith, kept.used, more, c.pend.ensures.used);
       few = omega (arith, c.pend.ensures.used);
       count = omega (arith, kept.count, many, c.pend.ensures.used, c.frame_length-need.ensures.least);
+      least = kept.least;
+      each = subst (All (λ l. 1 ≤ l)) (sym items) (All-push (λ l. 1 ≤ l) _ _ kept.each (omega (arith, c.frame_length-need.ensures.least)));
     }
 
 pub returns-in-Done-clause-does : goal.returns-in-Done-clause-does
@@ -50,6 +54,8 @@ invariant_of-self-in-NotDone g c =
       used = omega (arith, kept.used, more, c.pend-in-NotDone.ensures.used);
       few = omega (arith, c.pend-in-NotDone.ensures.used);
       count = omega (arith, kept.count, many, c.pend-in-NotDone.ensures.used, c.frame_length-need.ensures.least);
+      least = kept.least;
+      each = subst (All (λ l. 1 ≤ l)) (sym items) (All-push (λ l. 1 ≤ l) _ _ kept.each (omega (arith, c.frame_length-need.ensures.least)));
     }
 
 pub returns-in-NotDone-clause-does : goal.returns-in-NotDone-clause-does

@@ -1,4 +1,4 @@
-use Rattle.std.proofs.Common.{◌≡◌, ◌∙◌, subst}
+use Rattle.std.proofs.Common.{◌∙◌, subst}
 use Rattle.wal_roll.specs.Log.{wal}
 use Rattle.wal_roll.specs.Steps.{OnlyFile}
 use Rattle.wal_roll.proofs.Logs.{only_file, created}
