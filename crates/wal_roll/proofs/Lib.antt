@@ -1,2 +1,3 @@
 pub mod Logs
 pub mod Sealing
+pub mod Standing
