@@ -8,10 +8,12 @@
 
 mod error;
 mod file;
+mod laws;
 mod lengths;
 mod writer;
 
 pub use error::LogError;
+pub use laws::log_names_are_apart;
 pub use writer::LogWriter;
 
 #[cfg(test)]

@@ -120,7 +120,11 @@ fn sealed(alloc: Global, keep: u64) -> Result<(u32, u64), Fail> {
 #[test]
 fn a_seal_keeps_whole_frames(rt: HostRuntime) -> Result<(), Fail> {
     for (keep, kept, synced) in [(0, 0, 56), (55, 0, 56), (56, 1, 112), (66, 1, 112)] {
-        assert_eq!(rt; sealed(rt.alloc(), keep)?, (kept, synced), "with {keep} bytes");
+        assert_eq!(rt;
+            sealed(rt.alloc(), keep)?,
+            (kept, synced),
+            "with {keep} bytes"
+        );
     }
     Ok(())
 }
