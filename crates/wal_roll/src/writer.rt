@@ -12,7 +12,7 @@ use wal_entry::encode_frame;
 /// The most bytes that the frames of a log have.
 const LIMIT: u32 = 65_536;
 
-/// Writes one log. It keeps the lengths of pending frames, and no entries.
+/// Writes one log. It keeps the lengths of pending frames, and no entries. Its file is `SERVER.NUMBER` in the folder `wal`.
 #[derive(Drop)]
 pub struct LogWriter {
     alloc: Global,
