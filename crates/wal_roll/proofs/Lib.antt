@@ -1,0 +1,4 @@
+pub mod Logs
+pub mod Names
+pub mod Sealing
+pub mod Standing

@@ -1,0 +1,5 @@
+pub mod Blamed
+pub mod Keeps
+pub mod Kept
+pub mod Log
+pub mod Steps
