@@ -12,6 +12,13 @@ ghost use Rattle.worked_runs.specs.PlainPeerBecomesSerial.{plain_peer_becomes_se
 ghost use Rattle.worked_runs.specs.PromotionReplaysWhatWasMirrored.{promotion_replays_what_was_mirrored};
 ghost use Rattle.worked_runs.specs.RemoteCopyIsSweptOnceShipped.{remote_copy_is_swept_once_shipped};
 ghost use Rattle.worked_runs.specs.SplitAndMergeHoldBack.{split_and_merge_hold_back};
+ghost use Rattle.worked_runs.specs.FirstShipment.{first_shipment};
+ghost use Rattle.worked_runs.specs.PlainPeerPassesTheOlderWrite.{plain_peer_passes_the_older_write};
+ghost use Rattle.worked_runs.specs.OwnedQueueIsNotClaimed.{owned_queue_is_not_claimed};
+ghost use Rattle.worked_runs.specs.ChangeIsWithdrawn.{change_is_withdrawn};
+ghost use Rattle.worked_runs.specs.StandbyTakesNoWrites.{standby_takes_no_writes};
+ghost use Rattle.worked_runs.specs.FailedAppendBreaksTheLog.{failed_append_breaks_the_log};
+ghost use Rattle.worked_runs.specs.PeerIsDisabledAndRemoved.{peer_is_disabled_and_removed};
 
 /// Each of these journals is a legal run, by computation on the rows. There is nothing to be done: the contract is the
 /// law.
@@ -29,4 +36,11 @@ pub fn worked_runs_are_legal()
     ensures legal_promotion_replays_what_was_mirrored { IsLegal promotion_replays_what_was_mirrored }
     ensures legal_remote_copy_is_swept_once_shipped { IsLegal remote_copy_is_swept_once_shipped }
     ensures legal_split_and_merge_hold_back { IsLegal split_and_merge_hold_back }
+    ensures legal_first_shipment { IsLegal first_shipment }
+    ensures legal_plain_peer_passes_the_older_write { IsLegal plain_peer_passes_the_older_write }
+    ensures legal_owned_queue_is_not_claimed { IsLegal owned_queue_is_not_claimed }
+    ensures legal_change_is_withdrawn { IsLegal change_is_withdrawn }
+    ensures legal_standby_takes_no_writes { IsLegal standby_takes_no_writes }
+    ensures legal_failed_append_breaks_the_log { IsLegal failed_append_breaks_the_log }
+    ensures legal_peer_is_disabled_and_removed { IsLegal peer_is_disabled_and_removed }
 {}

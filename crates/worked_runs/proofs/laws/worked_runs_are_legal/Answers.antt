@@ -11,6 +11,13 @@ use Rattle.worked_runs.proofs.PlainPeerBecomesSerial as plain_peer_becomes_seria
 use Rattle.worked_runs.proofs.PromotionReplaysWhatWasMirrored as promotion_replays_what_was_mirrored
 use Rattle.worked_runs.proofs.RemoteCopyIsSweptOnceShipped as remote_copy_is_swept_once_shipped
 use Rattle.worked_runs.proofs.SplitAndMergeHoldBack as split_and_merge_hold_back
+use Rattle.worked_runs.proofs.FirstShipment as first_shipment
+use Rattle.worked_runs.proofs.PlainPeerPassesTheOlderWrite as plain_peer_passes_the_older_write
+use Rattle.worked_runs.proofs.OwnedQueueIsNotClaimed as owned_queue_is_not_claimed
+use Rattle.worked_runs.proofs.ChangeIsWithdrawn as change_is_withdrawn
+use Rattle.worked_runs.proofs.StandbyTakesNoWrites as standby_takes_no_writes
+use Rattle.worked_runs.proofs.FailedAppendBreaksTheLog as failed_append_breaks_the_log
+use Rattle.worked_runs.proofs.PeerIsDisabledAndRemoved as peer_is_disabled_and_removed
 use Rattle.worked_runs.proofs.laws.worked_runs_are_legal.Goals as goal
 
 pub returns-clause-legal_day_of_moves_a_split_and_a_crash : goal.returns-clause-legal_day_of_moves_a_split_and_a_crash
@@ -51,3 +58,24 @@ returns-clause-legal_remote_copy_is_swept_once_shipped c = remote_copy_is_swept_
 
 pub returns-clause-legal_split_and_merge_hold_back : goal.returns-clause-legal_split_and_merge_hold_back
 returns-clause-legal_split_and_merge_hold_back c = split_and_merge_hold_back.it_is_legal
+
+pub returns-clause-legal_first_shipment : goal.returns-clause-legal_first_shipment
+returns-clause-legal_first_shipment c = first_shipment.it_is_legal
+
+pub returns-clause-legal_plain_peer_passes_the_older_write : goal.returns-clause-legal_plain_peer_passes_the_older_write
+returns-clause-legal_plain_peer_passes_the_older_write c = plain_peer_passes_the_older_write.it_is_legal
+
+pub returns-clause-legal_owned_queue_is_not_claimed : goal.returns-clause-legal_owned_queue_is_not_claimed
+returns-clause-legal_owned_queue_is_not_claimed c = owned_queue_is_not_claimed.it_is_legal
+
+pub returns-clause-legal_change_is_withdrawn : goal.returns-clause-legal_change_is_withdrawn
+returns-clause-legal_change_is_withdrawn c = change_is_withdrawn.it_is_legal
+
+pub returns-clause-legal_standby_takes_no_writes : goal.returns-clause-legal_standby_takes_no_writes
+returns-clause-legal_standby_takes_no_writes c = standby_takes_no_writes.it_is_legal
+
+pub returns-clause-legal_failed_append_breaks_the_log : goal.returns-clause-legal_failed_append_breaks_the_log
+returns-clause-legal_failed_append_breaks_the_log c = failed_append_breaks_the_log.it_is_legal
+
+pub returns-clause-legal_peer_is_disabled_and_removed : goal.returns-clause-legal_peer_is_disabled_and_removed
+returns-clause-legal_peer_is_disabled_and_removed c = peer_is_disabled_and_removed.it_is_legal
