@@ -16,6 +16,8 @@ pub mod PeerIsDisabledAndRemoved
 pub mod PlainPeerBecomesSerial
 pub mod PlainPeerPassesTheOlderWrite
 pub mod PromotionReplaysWhatWasMirrored
+pub mod RefusalsOfPeers
+pub mod RefusalsOfRegions
 pub mod RemoteCopyIsSweptOnceShipped
 pub mod SplitAndMergeHoldBack
 pub mod StandbyTakesNoWrites

@@ -19,6 +19,8 @@ ghost use Rattle.worked_runs.specs.ChangeIsWithdrawn.{change_is_withdrawn};
 ghost use Rattle.worked_runs.specs.StandbyTakesNoWrites.{standby_takes_no_writes};
 ghost use Rattle.worked_runs.specs.FailedAppendBreaksTheLog.{failed_append_breaks_the_log};
 ghost use Rattle.worked_runs.specs.PeerIsDisabledAndRemoved.{peer_is_disabled_and_removed};
+ghost use Rattle.worked_runs.specs.RefusalsOfRegions.{refusals_of_regions};
+ghost use Rattle.worked_runs.specs.RefusalsOfPeers.{refusals_of_peers};
 
 /// Each of these journals is a legal run, by computation on the rows. There is nothing to be done: the contract is the
 /// law.
@@ -43,4 +45,6 @@ pub fn worked_runs_are_legal()
     ensures legal_standby_takes_no_writes { IsLegal standby_takes_no_writes }
     ensures legal_failed_append_breaks_the_log { IsLegal failed_append_breaks_the_log }
     ensures legal_peer_is_disabled_and_removed { IsLegal peer_is_disabled_and_removed }
+    ensures legal_refusals_of_regions { IsLegal refusals_of_regions }
+    ensures legal_refusals_of_peers { IsLegal refusals_of_peers }
 {}

@@ -18,6 +18,8 @@ use Rattle.worked_runs.proofs.ChangeIsWithdrawn as change_is_withdrawn
 use Rattle.worked_runs.proofs.StandbyTakesNoWrites as standby_takes_no_writes
 use Rattle.worked_runs.proofs.FailedAppendBreaksTheLog as failed_append_breaks_the_log
 use Rattle.worked_runs.proofs.PeerIsDisabledAndRemoved as peer_is_disabled_and_removed
+use Rattle.worked_runs.proofs.RefusalsOfRegions as refusals_of_regions
+use Rattle.worked_runs.proofs.RefusalsOfPeers as refusals_of_peers
 use Rattle.worked_runs.proofs.laws.worked_runs_are_legal.Goals as goal
 
 pub returns-clause-legal_day_of_moves_a_split_and_a_crash : goal.returns-clause-legal_day_of_moves_a_split_and_a_crash
@@ -79,3 +81,9 @@ returns-clause-legal_failed_append_breaks_the_log c = failed_append_breaks_the_l
 
 pub returns-clause-legal_peer_is_disabled_and_removed : goal.returns-clause-legal_peer_is_disabled_and_removed
 returns-clause-legal_peer_is_disabled_and_removed c = peer_is_disabled_and_removed.it_is_legal
+
+pub returns-clause-legal_refusals_of_regions : goal.returns-clause-legal_refusals_of_regions
+returns-clause-legal_refusals_of_regions c = refusals_of_regions.it_is_legal
+
+pub returns-clause-legal_refusals_of_peers : goal.returns-clause-legal_refusals_of_peers
+returns-clause-legal_refusals_of_peers c = refusals_of_peers.it_is_legal
