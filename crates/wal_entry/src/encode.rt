@@ -80,6 +80,15 @@ fn body_length(kind: &EntryKind) -> u32
     }
 }
 
+/// The length of the entry's frame in bytes: a multiple of 8, from 32 to 8,224.
+pub fn entry_length(entry: &Entry) -> u32
+    ensures value { result ≡ frame_length_of entry.now }
+    ensures least { 32 ≤ result }
+    ensures most { result ≤ 8224 }
+{
+    32 + (body_length(&entry.kind) + 7) / 8 * 8
+}
+
 fn push_body(out: &mut Bytes, kind: &EntryKind) -> Result<(), Memory>
     ensures ok { OnOk result (out.new ≡ out.old ++ body_spelling kind.now) }
     ensures err { OnErr result (take (length out.old) out.new ≡ out.old) }
@@ -153,11 +162,11 @@ fn push_frame(out: &mut Bytes, entry: &Entry) -> Result<(), Memory>
     ensures ok { OnOk result (out.new ≡ out.old ++ spelling entry.now) }
     ensures err { OnErr result (take (length out.old) out.new ≡ out.old) }
 {
+    let size = entry_length(entry);
     let body = body_length(&entry.kind);
-    let room = (body + 7) / 8 * 8;
-    push_fields(out, entry, 32 + room)?;
+    push_fields(out, entry, size)?;
     push_body(out, &entry.kind)?;
-    push_zeros(out, (room - body) as usize)
+    push_zeros(out, (size - 32 - body) as usize)
 }
 
 /// Adds the entry's one frame at the end, 32 to 8,224 bytes.

@@ -1,20 +1,5 @@
 ghost use Rattle.std.specs.Prelude.{◌≡◌, ◌+◌, ◌≤◌, ◌<◌, ◌^◌, ◌++◌, [], ◌∷◌, vec_len, vec_capacity, length, sum, take};
-ghost use Rattle.wal_entry.specs.Length.{frame_length_of};
 ghost use Rattle.wal_roll.specs.Kept.{whole};
-
-use rep_types::{Entry, EntryKind};
-
-// The length of the entry's frame, in bytes.
-pub fn frame_length(entry: &Entry) -> u32
-    ensures value { result ≡ frame_length_of entry.now }
-    ensures least { 32 ≤ result }
-    ensures most { result ≤ 8224 }
-{
-    match &entry.kind {
-        EntryKind::Write(edit) => 32 + (edit.length() + 7) / 8 * 8,
-        _ => 32,
-    }
-}
 
 // One more length, for which there is room.
 pub fn pend(lengths: &mut Vec<u32>, used: &mut u32, need: u32)

@@ -2,12 +2,12 @@ ghost use Rattle.std.specs.Prelude.{◌≡◌, ◌+◌, ◌≤◌, length};
 
 use crate::LogError;
 use crate::file::{FOLDER, file_name, make_file};
-use crate::lengths::{frame_length, pend, sum_of_first, whole_count};
+use crate::lengths::{pend, sum_of_first, whole_count};
 use rep_types::{Bytes, Call, Entry, ServerId};
 use rep_vault::{Tried, TriedSeal, Vault, try_append, try_seal, try_sync};
 use std::alloc::Global;
 use std::marker::Model;
-use wal_entry::encode_frame;
+use wal_entry::{encode_frame, entry_length};
 
 /// The most bytes that the frames of a log have.
 const LIMIT: u32 = 65_536;
@@ -141,7 +141,7 @@ impl LogWriter {
         if self.broken {
             return Err(LogError::Broken);
         }
-        let need = frame_length(entry);
+        let need = entry_length(entry);
         if self.used + need > LIMIT {
             return Err(LogError::NeedRoll {
                 used: self.used,

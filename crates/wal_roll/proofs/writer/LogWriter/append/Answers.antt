@@ -13,16 +13,16 @@ use Rattle.wal_roll.proofs.writer.LogWriter.append.Goals as goal
 pub invariant_of-self-in-Done : goal.invariant_of-self-in-Done
 invariant_of-self-in-Done g c =
     let kept = c.self.invariant in
-    let items : c.pend.new.lengths.items ≡ c.self.inside.lengths.items ++ c.frame_length-need.result ∷ [] = c.pend.ensures.items ∙ ap (λ l. l ++ c.frame_length-need.result ∷ []) c.reserve.ensures.items in
-    let more : sum c.pend.new.lengths.items ≡ sum c.self.inside.lengths.items + c.frame_length-need.result = ap sum items ∙ sum_more c.self.inside.lengths.items c.frame_length-need.result in
-    let many : length c.pend.new.lengths.items ≡ length c.self.inside.lengths.items + 1 = ap length items ∙ length-append c.self.inside.lengths.items (c.frame_length-need.result ∷ []) in
+    let items : c.pend.new.lengths.items ≡ c.self.inside.lengths.items ++ c.entry_length-need.result ∷ [] = c.pend.ensures.items ∙ ap (λ l. l ++ c.entry_length-need.result ∷ []) c.reserve.ensures.items in
+    let more : sum c.pend.new.lengths.items ≡ sum c.self.inside.lengths.items + c.entry_length-need.result = ap sum items ∙ sum_more c.self.inside.lengths.items c.entry_length-need.result in
+    let many : length c.pend.new.lengths.items ≡ length c.self.inside.lengths.items + 1 = ap length items ∙ length-append c.self.inside.lengths.items (c.entry_length-need.result ∷ []) in
     record {
       name = kept.name;
       used = omega (arith, kept.used, more, c.pend.ensures.used);
       few = omega (arith, c.pend.ensures.used);
-      count = omega (arith, kept.count, many, c.pend.ensures.used, c.frame_length-need.ensures.least);
+      count = omega (arith, kept.count, many, c.pend.ensures.used, c.entry_length-need.ensures.least);
       least = kept.least;
-      each = subst (All (λ l. 1 ≤ l)) (sym items) (All-push (λ l. 1 ≤ l) _ _ kept.each (omega (arith, c.frame_length-need.ensures.least)));
+      each = subst (All (λ l. 1 ≤ l)) (sym items) (All-push (λ l. 1 ≤ l) _ _ kept.each (omega (arith, c.entry_length-need.ensures.least)));
     }
 
 pub returns-in-Done-clause-does : goal.returns-in-Done-clause-does
@@ -32,8 +32,8 @@ returns-in-Done-clause-does g c = λ log writer.
     let whole : log.broken ≡ false = ap (λ (v : LogValue). v.broken) (sym w.same) ∙ c.if-self.false in
     let does = c.in-Done.ensures.does in
     let piece : c.as_slice.result.now ≡ spelling c.args.entry.now = c.as_slice.ensures ∙ (c.in-Ok.ensures.ok ∙ ap (λ l. l ++ spelling c.args.entry.now) c.new-piece.ensures) in
-    let items : c.pend.new.lengths.items ≡ c.self.inside.lengths.items ++ c.frame_length-need.result ∷ [] = c.pend.ensures.items ∙ ap (λ l. l ++ c.frame_length-need.result ∷ []) c.reserve.ensures.items in
-    let size : c.frame_length-need.result ≡ frame_size c.args.entry.now = c.frame_length-need.ensures.value ∙ sym (length-spelling c.args.entry.now) in
+    let items : c.pend.new.lengths.items ≡ c.self.inside.lengths.items ++ c.entry_length-need.result ∷ [] = c.pend.ensures.items ∙ ap (λ l. l ++ c.entry_length-need.result ∷ []) c.reserve.ensures.items in
+    let size : c.entry_length-need.result ≡ frame_size c.args.entry.now = c.entry_length-need.ensures.value ∙ sym (length-spelling c.args.entry.now) in
     let room : used_of c.args.self.now + frame_size c.args.entry.now ≤ 65536 = subst (λ (v : LogValue). used_of v + frame_size c.args.entry.now ≤ 65536) c.self.view_is (omega (arith, size, c.self.invariant.used)) in
     (whole, room, append_ok _ _ log w _ does.0 _ _ c.args.entry.now (c.as_str.ensures.value ∙ c.self.invariant.name) does.1 (does.2 ∙ ap (λ p. with_file wal c.as_str.result.now (longer p does.0) old) piece) whole (cc (items, size)))
 
@@ -46,16 +46,16 @@ returns-in-Done-clause-frame g c =
 pub invariant_of-self-in-NotDone : goal.invariant_of-self-in-NotDone
 invariant_of-self-in-NotDone g c =
     let kept = c.self.invariant in
-    let items : c.pend-in-NotDone.new.lengths.items ≡ c.self.inside.lengths.items ++ c.frame_length-need.result ∷ [] = c.pend-in-NotDone.ensures.items ∙ ap (λ l. l ++ c.frame_length-need.result ∷ []) c.reserve.ensures.items in
-    let more : sum c.pend-in-NotDone.new.lengths.items ≡ sum c.self.inside.lengths.items + c.frame_length-need.result = ap sum items ∙ sum_more c.self.inside.lengths.items c.frame_length-need.result in
-    let many : length c.pend-in-NotDone.new.lengths.items ≡ length c.self.inside.lengths.items + 1 = ap length items ∙ length-append c.self.inside.lengths.items (c.frame_length-need.result ∷ []) in
+    let items : c.pend-in-NotDone.new.lengths.items ≡ c.self.inside.lengths.items ++ c.entry_length-need.result ∷ [] = c.pend-in-NotDone.ensures.items ∙ ap (λ l. l ++ c.entry_length-need.result ∷ []) c.reserve.ensures.items in
+    let more : sum c.pend-in-NotDone.new.lengths.items ≡ sum c.self.inside.lengths.items + c.entry_length-need.result = ap sum items ∙ sum_more c.self.inside.lengths.items c.entry_length-need.result in
+    let many : length c.pend-in-NotDone.new.lengths.items ≡ length c.self.inside.lengths.items + 1 = ap length items ∙ length-append c.self.inside.lengths.items (c.entry_length-need.result ∷ []) in
     record {
       name = kept.name;
       used = omega (arith, kept.used, more, c.pend-in-NotDone.ensures.used);
       few = omega (arith, c.pend-in-NotDone.ensures.used);
-      count = omega (arith, kept.count, many, c.pend-in-NotDone.ensures.used, c.frame_length-need.ensures.least);
+      count = omega (arith, kept.count, many, c.pend-in-NotDone.ensures.used, c.entry_length-need.ensures.least);
       least = kept.least;
-      each = subst (All (λ l. 1 ≤ l)) (sym items) (All-push (λ l. 1 ≤ l) _ _ kept.each (omega (arith, c.frame_length-need.ensures.least)));
+      each = subst (All (λ l. 1 ≤ l)) (sym items) (All-push (λ l. 1 ≤ l) _ _ kept.each (omega (arith, c.entry_length-need.ensures.least)));
     }
 
 pub returns-in-NotDone-clause-does : goal.returns-in-NotDone-clause-does
@@ -65,8 +65,8 @@ returns-in-NotDone-clause-does g c = λ log writer.
     let whole : log.broken ≡ false = ap (λ (v : LogValue). v.broken) (sym w.same) ∙ c.if-self.false in
     let does = c.in-NotDone.ensures.does in
     let piece : c.as_slice.result.now ≡ spelling c.args.entry.now = c.as_slice.ensures ∙ (c.in-Ok.ensures.ok ∙ ap (λ l. l ++ spelling c.args.entry.now) c.new-piece.ensures) in
-    let items : c.pend-in-NotDone.new.lengths.items ≡ c.self.inside.lengths.items ++ c.frame_length-need.result ∷ [] = c.pend-in-NotDone.ensures.items ∙ ap (λ l. l ++ c.frame_length-need.result ∷ []) c.reserve.ensures.items in
-    let size : c.frame_length-need.result ≡ frame_size c.args.entry.now = c.frame_length-need.ensures.value ∙ sym (length-spelling c.args.entry.now) in
+    let items : c.pend-in-NotDone.new.lengths.items ≡ c.self.inside.lengths.items ++ c.entry_length-need.result ∷ [] = c.pend-in-NotDone.ensures.items ∙ ap (λ l. l ++ c.entry_length-need.result ∷ []) c.reserve.ensures.items in
+    let size : c.entry_length-need.result ≡ frame_size c.args.entry.now = c.entry_length-need.ensures.value ∙ sym (length-spelling c.args.entry.now) in
     let room : used_of c.args.self.now + frame_size c.args.entry.now ≤ 65536 = subst (λ (v : LogValue). used_of v + frame_size c.args.entry.now ≤ 65536) c.self.view_is (omega (arith, size, c.self.invariant.used)) in
     (whole, room, refl, append_failed _ _ log w _ does.0 _ _ c.args.entry.now does.2 (c.as_str.ensures.value ∙ c.self.invariant.name) does.1 (does.3 ∙ ap (λ p. with_file wal c.as_str.result.now (longer (take does.2 p) does.0) old) piece) whole (cc (items, size)))
 
@@ -78,22 +78,22 @@ returns-in-NotDone-clause-frame g c =
 
 pub returns-then-self-need-gt-LIMIT-clause-does : goal.returns-then-self-need-gt-LIMIT-clause-does
 returns-then-self-need-gt-LIMIT-clause-does g c = λ log writer.
-    let t = told _ _ _ log c.self.inside.used c.frame_length-need.result c.args.entry.now c.self.view_is writer c.if-self.false c.self.invariant.used c.frame_length-need.ensures.value in
+    let t = told _ _ _ log c.self.inside.used c.entry_length-need.result c.args.entry.now c.self.view_is writer c.if-self.false c.self.invariant.used c.entry_length-need.ensures.value in
     (t.0, t.1, t.2, refl, omega arith, refl, refl)
 
 pub returns-in_default-clause-does : goal.returns-in_default-clause-does
 returns-in_default-clause-does g c = λ log writer.
-    let t = told _ _ _ log c.self.inside.used c.frame_length-need.result c.args.entry.now c.self.view_is writer c.if-self.false c.self.invariant.used c.frame_length-need.ensures.value in
+    let t = told _ _ _ log c.self.inside.used c.entry_length-need.result c.args.entry.now c.self.view_is writer c.if-self.false c.self.invariant.used c.entry_length-need.ensures.value in
     (t.0, omega (arith, t.1, t.2), refl, refl)
 
 pub returns-in_default-reserve-clause-does : goal.returns-in_default-reserve-clause-does
 returns-in_default-reserve-clause-does g c = λ log writer.
-    let t = told _ _ _ log c.self.inside.used c.frame_length-need.result c.args.entry.now c.self.view_is writer c.if-self.false c.self.invariant.used c.frame_length-need.ensures.value in
+    let t = told _ _ _ log c.self.inside.used c.entry_length-need.result c.args.entry.now c.self.view_is writer c.if-self.false c.self.invariant.used c.entry_length-need.ensures.value in
     let items = c.reserve.ensures.items in
     (t.0, omega (arith, t.1, t.2), cc (items, c.self.view_is), refl)
 
 pub returns-clause-does : goal.returns-clause-does
 returns-clause-does g c = λ log writer.
-    let t = told _ _ _ log c.self.inside.used c.frame_length-need.result c.args.entry.now c.self.view_is writer c.if-self.false c.self.invariant.used c.frame_length-need.ensures.value in
+    let t = told _ _ _ log c.self.inside.used c.entry_length-need.result c.args.entry.now c.self.view_is writer c.if-self.false c.self.invariant.used c.entry_length-need.ensures.value in
     let items = c.reserve.ensures.items in
     (t.0, omega (arith, t.1, t.2), cc (items, c.self.view_is), c.in-NoMemory.ensures.does)
