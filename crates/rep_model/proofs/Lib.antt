@@ -1,5 +1,6 @@
 pub mod Arriving
 pub mod Batches
+pub mod Calm
 pub mod Flying
 pub mod Forming
 pub mod Heads

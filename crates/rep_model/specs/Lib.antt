@@ -1,5 +1,6 @@
 pub mod Changes
 pub mod Built
+pub mod Calm
 pub mod Commits
 pub mod Delivering
 pub mod Copies

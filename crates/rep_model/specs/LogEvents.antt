@@ -23,7 +23,8 @@ use Rattle.rep_model.specs.Places.{after_death, table_of, located_number, Seat, 
 use Rattle.rep_model.specs.Tickets.{with_ticket, doubt_pending, tell_waiting, acks, doubtful}
 use Rattle.rep_model.specs.Copies.{make_copy}
 use Rattle.rep_model.specs.Changes.{takes_pending}
-use Rattle.rep_model.specs.Row.{Row, answers, first, unless, or_fault, fault_among, Site, site, simple}
+use Rattle.rep_model.specs.Row.{Row, answers, first, unless, or_fault, fault_among, site, simple}
+use Rattle.rep_model.specs.declared.faults.Site.{Site}
 use Rattle.rep_model.specs.declared.machine.Machine.{Machine}
 use Rattle.rep_model.specs.declared.machine.Server.{Server}
 use Rattle.rep_model.specs.declared.machine.Hosted.{Hosted}
@@ -45,7 +46,7 @@ abbrev pub copy_sites : Cluster → Machine → List Site → List Site
 copy_sites c m rest = if is_dual c m then site (other c) call.Create ∷ rest else rest
 
 -- a failure behind the creation of a remote copy leaves the copy
-abbrev left_copy : Call → Cluster → ℕ → ℕ → Machine → Machine
+abbrev pub left_copy : Call → Cluster → ℕ → ℕ → Machine → Machine
 left_copy call.Put c s l m = make_copy (is_dual c m) c s l m
 left_copy call.Seal c s l m = make_copy (is_dual c m) c s l m
 left_copy _ c s l m = m

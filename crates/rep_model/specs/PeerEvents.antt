@@ -24,7 +24,8 @@ use Rattle.rep_model.specs.Places.{table_of}
 use Rattle.rep_model.specs.Tickets.{tell_waiting, acks, doubtful}
 use Rattle.rep_model.specs.Copies.{copy_of, unoffered, lowest_copy, last_copies, server_copies, without_copy, with_copy}
 use Rattle.rep_model.specs.LogEvents.{live_refusals, log_of, new_queue}
-use Rattle.rep_model.specs.Row.{Row, answers, first, unless, or_fault, fault_among, Site, site, simple}
+use Rattle.rep_model.specs.Row.{Row, answers, first, unless, or_fault, fault_among, site, simple}
+use Rattle.rep_model.specs.declared.faults.Site.{Site}
 use Rattle.rep_model.specs.declared.machine.Machine.{Machine}
 use Rattle.rep_model.specs.declared.machine.Side.{Side}
 use Rattle.rep_model.specs.declared.machine.Commit.{Commit}

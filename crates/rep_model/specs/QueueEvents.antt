@@ -20,6 +20,7 @@ use Rattle.rep_model.specs.Places.{Seat, seat, located_number, capped, used, lac
 use Rattle.rep_model.specs.Tickets.{acks}
 use Rattle.rep_model.specs.LogEvents.{broken_by, synced_with}
 use Rattle.rep_model.specs.Row.{Row, answers, first, unless, or_fault, fault_among, site, simple}
+use Rattle.rep_model.specs.declared.faults.Failing.{Failing}
 use Rattle.rep_model.specs.declared.machine.Machine.{Machine}
 use Rattle.rep_model.specs.declared.machine.Commit.{Commit}
 use Rattle.rep_model.specs.declared.machine.Peer.{Peer}
@@ -103,13 +104,8 @@ arrival p x form = record { region = x.region; kind = kind.Write form.edit; mark
 abbrev pub stopped : Machine → ℕ → Cause → Delivery
 stopped m i why = record { left = m; arrived = i; stop = Some why }
 
--- a form's place, and the call that failed there
-pub record Failing : Type 0 where
-  pub index : ℕ
-  pub why : Cause
-
 -- what a reply tells of a failed append or sync
-abbrev failing_by : Cluster → ℕ → Cause → Option Failing
+abbrev pub failing_by : Cluster → ℕ → Cause → Option Failing
 failing_by c index (cause.StoreFault store failed count) =
     given (fault_among (site c call.Append ∷ site c call.Sync ∷ []) (reply.StoreFault store failed count)) None (λ _. Some (record { index = index; why = cause.StoreFault store failed count }))
 failing_by c index _ = None
@@ -118,7 +114,7 @@ abbrev pub failing : Cluster → Reply → Option Failing
 failing c (reply.Stopped index acked why) = failing_by c index why
 failing c _ = None
 
-abbrev fails_at : Option Failing → ℕ → Option Cause
+abbrev pub fails_at : Option Failing → ℕ → Option Cause
 fails_at None i = None
 fails_at (Some f) i = if f.index == i then Some f.why else None
 

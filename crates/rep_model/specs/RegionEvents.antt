@@ -22,7 +22,8 @@ use Rattle.rep_model.specs.Needs.{log_needer}
 use Rattle.rep_model.specs.Places.{is_off, opens_at, on_at, closes_at, lost_at, table_of, capped, used, lacks_room, is_closed}
 use Rattle.rep_model.specs.Tickets.{acks}
 use Rattle.rep_model.specs.LogEvents.{own_pending, broken_by, emptied, synced_with, next_id}
-use Rattle.rep_model.specs.Row.{Row, answers, first, unless, or_fault, fault_among, Site, site, run_sites, simple}
+use Rattle.rep_model.specs.Row.{Row, answers, first, unless, or_fault, fault_among, site, run_sites, simple}
+use Rattle.rep_model.specs.declared.faults.Site.{Site}
 use Rattle.rep_model.specs.declared.machine.Machine.{Machine}
 use Rattle.rep_model.specs.declared.machine.Side.{Side}
 use Rattle.rep_model.specs.declared.machine.Table.{Table}

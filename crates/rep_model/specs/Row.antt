@@ -9,6 +9,7 @@ use Rattle.rep_types.specs.declared.refusal.Refusal.{Refusal}
 use Rattle.rep_types.specs.declared.reply.Reply.{Reply}
 use Rattle.rep_types.specs.declared.reply.Reply.TheVariants as reply
 use Rattle.rep_model.specs.State.{mark}
+use Rattle.rep_model.specs.declared.faults.Site.{Site}
 use Rattle.rep_model.specs.declared.machine.Machine.{Machine}
 
 pub record Row : Type 0 where
@@ -40,11 +41,6 @@ call_number call.Rename = 6
 call_number call.Remove = 7
 call_number call.List = 8
 call_number call.Put = 9
-
--- a kind of call on the store of a cluster
-pub record Site : Type 0 where
-  pub store : Cluster
-  pub call : Call
 
 abbrev pub is_site : Cluster → Call → Site → Bool
 is_site store call s = (mark s.store == mark store) && (call_number s.call == call_number call)

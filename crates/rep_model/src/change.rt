@@ -2,7 +2,7 @@
 ghost use Rattle.std.specs.Prelude.{◌≡◌, ◌++◌, ◌∷◌, [], Some, None, find, OnOk, IfSome, MatchOption};
 ghost use Rattle.rep_model.specs.Keyed.{replace};
 ghost use Rattle.rep_model.specs.State.{is_server, is_region, is_peer, is_queue, is_flight};
-ghost use Rattle.rep_model.specs.LogEvents.{emptied};
+ghost use Rattle.rep_model.specs.LogEvents.{broken, emptied};
 ghost use Rattle.rep_model.specs.RegionEvents.{moved, with_barrier, opened};
 ghost use Rattle.rep_model.specs.Changes.{takes_pending};
 
@@ -42,6 +42,16 @@ pub fn take_pending(alloc: Global, servers: &mut Items<Server>, number: ServerId
     };
     let server = servers.at_mut(at);
     mem::replace(&mut server.pending, Items::new(alloc))
+}
+
+/// The server's log is broken from now on.
+pub fn break_log(servers: &mut Items<Server>, number: ServerId)
+    ensures { IfSome (find (is_server number) servers.old) (λ x.
+        servers.new ≡ replace (is_server number) (broken x) servers.old) }
+{
+    if let Some(at) = server_place(servers, number) {
+        servers.at_mut(at).whole = false;
+    }
 }
 
 /// The region moves.

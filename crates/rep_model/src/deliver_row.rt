@@ -3,12 +3,13 @@ ghost use Rattle.std.specs.Prelude.{◌≡◌, ◌+◌, ◌^◌, ◌<◌, ◌≤
 ghost use Rattle.rep_model.specs.Built.{size};
 ghost use Rattle.rep_model.specs.Keyed.{replace};
 ghost use Rattle.rep_model.specs.Row.{answers};
-ghost use Rattle.rep_model.specs.Runs.{Tells, no_faults};
+ghost use Rattle.rep_model.specs.Calm.{is_calm, is_fault};
 ghost use Rattle.rep_model.specs.State.{is_flight};
-ghost use Rattle.rep_model.specs.Delivering.{Takes, is_fault};
+ghost use Rattle.rep_model.specs.Delivering.{Takes};
 ghost use Rattle.rep_model.specs.QueueEvents.{delivered, deliver_row};
 
-use crate::change::take_pending;
+use crate::change::{append_pending, take_pending};
+use crate::faults::{Failing, fails_at, told_failing};
 use crate::forms::forms;
 use crate::frames::frame_length;
 use crate::lookup::{find_flight, find_server, find_serving, flight_place};
@@ -44,10 +45,10 @@ impl Machine {
         synchronous: bool,
         cluster: Cluster,
         form: &Form,
+        fails: Option<Cause>,
     ) -> Result<Option<Cause>, Memory>
-        ensures takes { IfOk result (λ stop. Takes peer synchronous form.now cluster self.old stop self.new) }
-        ensures kept { IfOk result (λ stop. IfSome stop (λ _. self.new ≡ self.old)) }
-        ensures no_fault { IfOk result (λ stop. IfSome stop (λ why. is_fault why ≡ false)) }
+        ensures takes { IfOk result (λ stop. Takes peer synchronous form.now cluster fails self.old stop self.new) }
+        ensures calm { fails ≡ None → IfOk result (λ stop. IfSome stop (λ why. is_fault why ≡ false)) }
         ensures tickets { length self.new.tickets ≡ length self.old.tickets }
         ensures flights { self.new.flights ≡ self.old.flights }
     {
@@ -94,6 +95,10 @@ impl Machine {
             }),
             ticket: None,
         };
+        if let Some(why) = fails {
+            append_pending(&mut self.side_mut(cluster).servers, server, entry, false)?;
+            return Ok(Some(why));
+        }
         let mut pending = take_pending(alloc, &mut self.side_mut(cluster).servers, server);
         pending.push(entry)?;
         self.settle(alloc, cluster, server, log, pending)?;
@@ -107,16 +112,18 @@ impl Machine {
         peer: PeerId,
         synchronous: bool,
         cluster: Cluster,
+        failing: &Option<Failing>,
         forms: &[Form],
     ) -> Result<(u64, Option<Cause>), Memory>
-        ensures delivered { IfOk result (λ made. record { left = self.new; arrived = made.0; stop = made.1 } ≡ delivered peer synchronous cluster None 0 forms.now self.old) }
-        ensures no_fault { IfOk result (λ made. IfSome made.1 (λ why. is_fault why ≡ false)) }
+        ensures delivered { IfOk result (λ made. record { left = self.new; arrived = made.0; stop = made.1 } ≡ delivered peer synchronous cluster failing.now 0 forms.now self.old) }
+        ensures calm { failing.now ≡ None → IfOk result (λ made. IfSome made.1 (λ why. is_fault why ≡ false)) }
         ensures tickets { length self.new.tickets ≡ length self.old.tickets }
         ensures flights { self.new.flights ≡ self.old.flights }
     {
         let mut arrived = 0;
         for form in forms {
-            let stop = self.arrive(alloc, peer, synchronous, cluster, form)?;
+            let fails = fails_at(failing, arrived);
+            let stop = self.arrive(alloc, peer, synchronous, cluster, form, fails)?;
             match stop {
                 Some(cause) => return Ok((arrived, Some(cause))),
                 None => arrived += 1,
@@ -127,10 +134,15 @@ impl Machine {
 
     /// The forms of a flight that was ever sent arrive at the destination.
     #[tactic(auto, unfolding(crate::specs::QueueEvents::deliver_row, crate::specs::Keyed::given))]
-    pub(crate) fn deliver(&mut self, alloc: Global, flight: u32) -> Result<Reply, Memory>
+    pub(crate) fn deliver(
+        &mut self,
+        alloc: Global,
+        flight: u32,
+        said: &Reply,
+    ) -> Result<Reply, Memory>
         requires room { length self.old.tickets < 2 ^ 32 }
-        ensures row { IfOk result (λ reply. answers reply self.new ≡ deliver_row flight reply self.old) }
-        ensures no_fault { IfOk result (λ reply. Tells reply no_faults no_faults) }
+        ensures row { IfOk result (λ reply. answers reply self.new ≡ deliver_row flight said.now self.old) }
+        ensures calm { is_calm said.now ≡ true → IfOk result (λ reply. is_calm reply ≡ true) }
         ensures grows { IfOk result (λ _. size self.new ≤ size self.old + 1) }
     {
         let Some(held) = find_flight(&self.flights, flight) else {
@@ -147,7 +159,15 @@ impl Machine {
             held.entries.as_slice(),
         )?;
         let before = Items::from_slice(alloc, self.tickets.as_slice())?;
-        let (arrived, stop) = self.deliver_all(alloc, peer, synchronous, to, sent.as_slice())?;
+        let failing = told_failing(to, said);
+        let (arrived, stop) = self.deliver_all(
+            alloc,
+            peer,
+            synchronous,
+            to,
+            &failing,
+            sent.as_slice(),
+        )?;
         let acks = newly_acknowledged(alloc, before.as_slice(), self.tickets.as_slice())?;
         match stop {
             Some(cause) => Ok(Reply::Stopped {

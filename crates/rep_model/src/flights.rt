@@ -1,5 +1,5 @@
 // The rows of flights: send and confirm.
-ghost use Rattle.std.specs.Prelude.{◌≡◌, ◌+◌, ◌-◌, ◌^◌, ◌<◌, ◌≤◌, None, Some, find, length, IfOk, OnOk, if◌then◌else◌};
+ghost use Rattle.std.specs.Prelude.{◌≡◌, ◌+◌, ◌-◌, ◌^◌, ◌<◌, ◌≤◌, None, Some, true, find, length, IfOk, OnOk, if◌then◌else◌};
 ghost use Rattle.std.specs.Option.{option_copied};
 ghost use Rattle.rep_model.specs.Keyed.{given, if_some};
 ghost use Rattle.rep_model.specs.State.{of, is_server, is_peer, flight_of};
@@ -7,16 +7,17 @@ ghost use Rattle.rep_model.specs.Peers.{is_enabled, is_removed};
 ghost use Rattle.rep_model.specs.Queues.{batch};
 ghost use Rattle.rep_model.specs.QueueEvents.{send_refusals, held_refusal, new_flight, next_flight, sent, flown, flight_forms, is_out, recorded, confirm_refusals, send_row, confirm_row};
 ghost use Rattle.rep_model.specs.Row.{answers, first};
-ghost use Rattle.rep_model.specs.Runs.{Tells, no_faults};
+ghost use Rattle.rep_model.specs.Calm.{is_calm};
 
 use crate::change::{add_recorded, set_flight};
+use crate::faults::{call_of, fault_among};
 use crate::forms::forms;
 use crate::lookup::{find_flight, find_peer, find_queue, find_server};
 use crate::queues::{batch, need, queue_is_empty};
 use crate::settle::is_synchronous;
 use crate::side::other;
 use crate::{Commit, Flight, Form, Machine, Peer, Server, Standing};
-use rep_types::{Cluster, Duplicate, Items, Memory, PeerId, Refusal, Reply, ServerId};
+use rep_types::{Call, Cluster, Duplicate, Items, Memory, PeerId, Refusal, Reply, ServerId};
 use std::alloc::Global;
 
 pub fn is_enabled(standing: Standing) -> bool
@@ -197,10 +198,11 @@ impl Machine {
         peer: PeerId,
         server: ServerId,
         most: u16,
+        said: &Reply,
     ) -> Result<Reply, Memory>
         requires room { length self.old.flights < 2 ^ 32 - 1 }
-        ensures row { IfOk result (λ reply. answers reply self.new ≡ send_row cluster peer server most reply self.old) }
-        ensures no_fault { IfOk result (λ reply. Tells reply no_faults no_faults) }
+        ensures row { IfOk result (λ reply. answers reply self.new ≡ send_row cluster peer server most said.now self.old) }
+        ensures calm { is_calm said.now ≡ true → IfOk result (λ reply. is_calm reply ≡ true) }
         ensures sizes { IfOk result (λ _. (length self.new.flights ≤ length self.old.flights + 1) × (length self.new.tickets ≡ length self.old.tickets)) }
     {
         if let Some(why) = self.send_refusal(cluster, peer, server) {
@@ -209,6 +211,9 @@ impl Machine {
         let Some(whose) = added_peer(&self.side(cluster).peers, peer) else {
             return Ok(Reply::Done);
         };
+        if fault_among(&[call_of(cluster, Call::Read)], said).is_some() {
+            return said.copy(alloc);
+        }
         let flight = self.new_flight(alloc, cluster, whose, server, most)?;
         if let Some(why) = self.held_refusal(cluster, server, flight.entries.as_slice(), whose) {
             return Ok(Reply::Refused(why));
@@ -259,9 +264,14 @@ impl Machine {
 
     /// The entries of a delivered flight are recorded.
     #[tactic(auto, unfolding(crate::specs::QueueEvents::confirm_row, crate::specs::Keyed::given))]
-    pub(crate) fn confirm(&mut self, alloc: Global, flight: u32) -> Result<Reply, Memory>
-        ensures row { IfOk result (λ reply. answers reply self.new ≡ confirm_row flight reply self.old) }
-        ensures no_fault { IfOk result (λ reply. Tells reply no_faults no_faults) }
+    pub(crate) fn confirm(
+        &mut self,
+        alloc: Global,
+        flight: u32,
+        said: &Reply,
+    ) -> Result<Reply, Memory>
+        ensures row { IfOk result (λ reply. answers reply self.new ≡ confirm_row flight said.now self.old) }
+        ensures calm { is_calm said.now ≡ true → IfOk result (λ reply. is_calm reply ≡ true) }
         ensures sizes { IfOk result (λ _. (length self.new.flights ≤ length self.old.flights + 1) × (length self.new.tickets ≡ length self.old.tickets)) }
     {
         if let Some(why) = self.confirm_refusal(flight) {
@@ -271,6 +281,9 @@ impl Machine {
             return Ok(Reply::Done);
         };
         let cluster = there.cluster;
+        if fault_among(&[call_of(cluster, Call::Put)], said).is_some() {
+            return said.copy(alloc);
+        }
         let peer = there.peer;
         let server = there.server;
         let entries = there.entries.copy(alloc)?;

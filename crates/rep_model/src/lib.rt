@@ -5,6 +5,7 @@
 mod change;
 mod copies;
 mod deliver_row;
+mod faults;
 mod flights;
 mod forms;
 mod frames;
@@ -24,6 +25,7 @@ mod step;
 mod tickets;
 mod views;
 
+pub use faults::{Failing, Site};
 pub use machine::{
     Commit, Flight, Form, Hosted, Link, Machine, Peer, Pending, Queue, Region, RemoteCopy, Server,
     Side, Standing, Table, Ticket, Told, Written,

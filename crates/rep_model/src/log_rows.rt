@@ -1,21 +1,24 @@
 // The rows of servers and their logs.
-ghost use Rattle.std.specs.Prelude.{◌≡◌, ◌+◌, ◌++◌, ◌∷◌, [], ◌^◌, ◌<◌, ◌≤◌, IfOk, OnOk, length};
+ghost use Rattle.std.specs.Prelude.{◌≡◌, ◌+◌, ◌++◌, ◌∷◌, [], ◌^◌, ◌<◌, ◌≤◌, None, true, if◌then◌else◌, IfOk, OnOk, length};
 ghost use Rattle.rep_model.specs.Built.{size};
-ghost use Rattle.rep_model.specs.Row.{answers};
-ghost use Rattle.rep_model.specs.Runs.{Tells, no_faults};
+ghost use Rattle.rep_model.specs.Row.{answers, fault_among, site};
+ghost use Rattle.rep_model.specs.State.{other};
+ghost use Rattle.rep_types.specs.declared.state.Call.TheVariants as Call;
+ghost use Rattle.rep_model.specs.Calm.{is_calm};
 ghost use Rattle.std.specs.List.{list_any};
 ghost use Rattle.rep_model.specs.Peers.{is_dual_in};
 ghost use Rattle.rep_model.specs.Copies.{is_copy_in, copied, make_copy};
-ghost use Rattle.rep_model.specs.LogEvents.{new_server, server_queues, server_row, sync_row};
+ghost use Rattle.rep_model.specs.LogEvents.{is_dual, left_copy, new_server, server_queues, server_row, sync_row};
 
-use crate::change::take_pending;
+use crate::change::{break_log, take_pending};
+use crate::faults::{call_of, fault_among};
 use crate::flights::is_removed;
 use crate::lookup::find_server;
 use crate::settle::is_active;
 use crate::side::other;
 use crate::tickets::newly_acknowledged;
-use crate::{Link, Machine, Peer, Queue, RemoteCopy, Server, Side};
-use rep_types::{Cluster, Items, Memory, Phase, Refusal, Reply, ServerId};
+use crate::{Link, Machine, Peer, Queue, RemoteCopy, Server, Side, Site};
+use rep_types::{Call, Cluster, Duplicate, Items, Memory, Phase, Refusal, Reply, ServerId};
 use std::alloc::Global;
 
 fn is_dual(link: &Link) -> bool
@@ -56,6 +59,19 @@ fn has_copy(copies: &Items<RemoteCopy>, server: ServerId, log: u32, folder: u32)
     copies.as_slice().iter().any(|copy| copy.server == server
         && copy.log == log
         && copy.folder == folder)
+}
+
+// The call that failed behind the creation of a new server's log.
+fn put_fault(dual: bool, cluster: Cluster, said: &Reply) -> Option<Site>
+    ensures sites { result ≡ fault_among (if dual then site (other cluster) Call.Create ∷ site cluster Call.Put ∷ [] else site cluster Call.Put ∷ []) said.now }
+    ensures calm { is_calm said.now ≡ true → result ≡ None }
+{
+    let put = call_of(cluster, Call::Put);
+    if dual {
+        fault_among(&[call_of(other(cluster), Call::Create), put], said)
+    } else {
+        fault_among(&[put], said)
+    }
 }
 
 impl Link {
@@ -124,6 +140,26 @@ impl Machine {
         }
     }
 
+    // A failure behind the creation of a remote copy leaves the copy.
+    fn left_copy(
+        &mut self,
+        alloc: Global,
+        failed: Call,
+        dual: bool,
+        cluster: Cluster,
+        server: ServerId,
+        log: u32,
+    ) -> Result<(), Memory>
+        ensures left { OnOk result (dual ≡ is_dual cluster self.old → self.new ≡ left_copy failed cluster server log self.old) }
+        ensures tickets { self.new.tickets ≡ self.old.tickets }
+        ensures flights { self.new.flights ≡ self.old.flights }
+    {
+        match failed {
+            Call::Put | Call::Seal => self.make_copy(alloc, dual, cluster, server, log),
+            _ => Ok(()),
+        }
+    }
+
     /// A live server with log 1 of the cluster's present kind, and its queues.
     #[tactic(auto, unfolding(crate::specs::LogEvents::server_row, crate::specs::Keyed::given))]
     pub(crate) fn server(
@@ -131,18 +167,26 @@ impl Machine {
         alloc: Global,
         cluster: Cluster,
         server: ServerId,
+        said: &Reply,
     ) -> Result<Reply, Memory>
-        ensures row { IfOk result (λ reply. answers reply self.new ≡ server_row cluster server reply self.old) }
-        ensures no_fault { IfOk result (λ reply. Tells reply no_faults no_faults) }
+        ensures row { IfOk result (λ reply. answers reply self.new ≡ server_row cluster server said.now self.old) }
+        ensures calm { is_calm said.now ≡ true → IfOk result (λ reply. is_calm reply ≡ true) }
         ensures grows { IfOk result (λ _. size self.new ≤ size self.old + 1) }
     {
         let side = self.side(cluster);
         if find_server(&side.servers, server).is_some() {
             return Ok(Reply::Refused(Refusal::Exists));
         }
+        if fault_among(&[call_of(cluster, Call::Create)], said).is_some() {
+            return said.copy(alloc);
+        }
         let dual = is_dual(&side.link);
         if dual && self.side(other(cluster)).link.folder.is_none() {
             return Ok(Reply::Refused(Refusal::Fenced));
+        }
+        if let Some(failed) = put_fault(dual, cluster, said) {
+            self.left_copy(alloc, failed.call, dual, cluster, server, 1)?;
+            return said.copy(alloc);
         }
         self.side_mut(cluster).add_server(alloc, server, dual)?;
         self.make_copy(alloc, dual, cluster, server, 1)?;
@@ -156,10 +200,11 @@ impl Machine {
         alloc: Global,
         cluster: Cluster,
         server: ServerId,
+        said: &Reply,
     ) -> Result<Reply, Memory>
         requires room { length self.old.tickets < 2 ^ 32 }
-        ensures row { IfOk result (λ reply. answers reply self.new ≡ sync_row cluster server reply self.old) }
-        ensures no_fault { IfOk result (λ reply. Tells reply no_faults no_faults) }
+        ensures row { IfOk result (λ reply. answers reply self.new ≡ sync_row cluster server said.now self.old) }
+        ensures calm { is_calm said.now ≡ true → IfOk result (λ reply. is_calm reply ≡ true) }
         ensures grows { IfOk result (λ _. size self.new ≤ size self.old + 1) }
     {
         let Some(host) = find_server(&self.side(cluster).servers, server) else {
@@ -171,6 +216,10 @@ impl Machine {
         let log = host.log;
         if !host.whole {
             return Ok(Reply::Refused(Refusal::Broken { log }));
+        }
+        if fault_among(&[call_of(cluster, Call::Sync)], said).is_some() {
+            break_log(&mut self.side_mut(cluster).servers, server);
+            return said.copy(alloc);
         }
         let before = Items::from_slice(alloc, self.tickets.as_slice())?;
         let pending = take_pending(alloc, &mut self.side_mut(cluster).servers, server);

@@ -1,23 +1,24 @@
 // The row of a new peer.
-ghost use Rattle.std.specs.Prelude.{◌≡◌, ◌+◌, ◌≤◌, ◌++◌, ◌==◌, IfOk, OnOk};
+ghost use Rattle.std.specs.Prelude.{◌≡◌, ◌+◌, ◌≤◌, ◌++◌, ◌==◌, true, IfOk, OnOk};
 ghost use Rattle.std.specs.List.{list_any};
 ghost use Rattle.std.specs.Str.{bytes_eq};
 ghost use Rattle.rep_model.specs.Built.{size};
 ghost use Rattle.rep_model.specs.Keyed.{if_some};
 ghost use Rattle.rep_model.specs.Row.{answers, first};
-ghost use Rattle.rep_model.specs.Runs.{Tells, no_faults};
+ghost use Rattle.rep_model.specs.Calm.{is_calm};
 ghost use Rattle.rep_model.specs.Peers.{has_tables, same_tables};
 ghost use Rattle.rep_model.specs.Places.{table_of};
 ghost use Rattle.rep_model.specs.PeerEvents.{lacks_family, has_local, lacks_table, table_lacks_family, is_partial, has_synchronous, differs, synchronous_peer_refusals, peer_refusals, new_queues, linked, peer_row};
 
+use crate::faults::{call_of, fault_among};
 use crate::forms::has_table;
 use crate::lookup::{find_peer, find_table};
 use crate::settle::is_synchronous;
 use crate::side::other;
 use crate::{Link, Machine, Peer, Queue, Server, Side, Standing, Table};
 use rep_types::{
-    Cluster, Duplicate, Families, Family, Items, Kind, Memory, Name, Names, PeerId, Phase, Refusal,
-    Reply, SyncState,
+    Call, Cluster, Duplicate, Families, Family, Items, Kind, Memory, Name, Names, PeerId, Phase,
+    Refusal, Reply, SyncState,
 };
 use std::alloc::Global;
 
@@ -235,13 +236,17 @@ impl Machine {
         peer: PeerId,
         kind: Kind,
         tables: &Names,
+        said: &Reply,
     ) -> Result<Reply, Memory>
-        ensures row { IfOk result (λ reply. answers reply self.new ≡ peer_row cluster peer kind tables.now reply self.old) }
-        ensures no_fault { IfOk result (λ reply. Tells reply no_faults no_faults) }
+        ensures row { IfOk result (λ reply. answers reply self.new ≡ peer_row cluster peer kind tables.now said.now self.old) }
+        ensures calm { is_calm said.now ≡ true → IfOk result (λ reply. is_calm reply ≡ true) }
         ensures grows { IfOk result (λ _. size self.new ≤ size self.old + 1) }
     {
         if let Some(refusal) = self.peer_refusal(cluster, peer, kind, tables) {
             return Ok(Reply::Refused(refusal));
+        }
+        if fault_among(&[call_of(cluster, Call::Put)], said).is_some() {
+            return said.copy(alloc);
         }
         let side = self.side_mut(cluster);
         let start = side.commits.len() as u64;

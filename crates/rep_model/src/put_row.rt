@@ -1,15 +1,16 @@
 // The row of a put.
-ghost use Rattle.std.specs.Prelude.{◌≡◌, ◌+◌, ◌-◌, ◌^◌, ◌<◌, ◌≤◌, false, IfOk, length};
+ghost use Rattle.std.specs.Prelude.{◌≡◌, ◌+◌, ◌-◌, ◌^◌, ◌<◌, ◌≤◌, None, Some, true, false, if◌then◌else◌, IfOk, length};
 ghost use Rattle.std.specs.List.{list_all};
 ghost use Rattle.rep_types.specs.Edit.{edit_length, repeats};
 ghost use Rattle.rep_model.specs.State.{of};
 ghost use Rattle.rep_model.specs.Peers.{is_standby};
 ghost use Rattle.rep_model.specs.Built.{size};
 ghost use Rattle.rep_model.specs.Row.{answers};
-ghost use Rattle.rep_model.specs.Runs.{Tells, no_faults};
+ghost use Rattle.rep_model.specs.Calm.{is_calm};
 ghost use Rattle.rep_model.specs.LogEvents.{put_edit, has_family, is_barred, put_row};
 
 use crate::change::append_pending;
+use crate::faults::{call_of, fault_among};
 use crate::frames::frame_length;
 use crate::lookup::{find_server, find_serving, find_table};
 use crate::places::on_at;
@@ -17,7 +18,7 @@ use crate::settle::{commit_count, pending_count};
 use crate::side::mark;
 use crate::{Machine, Pending, Ticket, Told};
 use rep_types::{
-    Cell, Cells, Cluster, Duplicate, Edit, EntryKind, Families, Key, Memory, Name, Refusal,
+    Call, Cell, Cells, Cluster, Duplicate, Edit, EntryKind, Families, Key, Memory, Name, Refusal,
     RegionId, Reply, SyncState, edit_length,
 };
 use std::alloc::Global;
@@ -60,6 +61,13 @@ fn put_edit(alloc: Global, table: &Name, row: &Key, cells: &Cells) -> Result<Edi
     }
 }
 
+// An entry whose append failed has none.
+fn ticket_of(failed: bool, ticket: u32) -> Option<u32>
+    ensures { result ≡ (if failed then None else Some ticket) }
+{
+    if failed { None } else { Some(ticket) }
+}
+
 impl Machine {
     // Clients neither read nor write the table here.
     pub(crate) fn is_barred(&self, cluster: Cluster, table: &Name) -> bool
@@ -78,13 +86,14 @@ impl Machine {
         table: &Name,
         row: &Key,
         cells: &Cells,
+        said: &Reply,
     ) -> Result<Reply, Memory>
         requires some { 0 < length cells.now }
         requires few { length cells.now ≤ 64 }
         requires distinct { repeats cells.now ≡ false }
         requires room { length self.old.tickets < 2 ^ 32 - 1 }
-        ensures row { IfOk result (λ reply. answers reply self.new ≡ put_row cluster table.now row.now cells.now reply self.old) }
-        ensures no_fault { IfOk result (λ reply. Tells reply no_faults no_faults) }
+        ensures row { IfOk result (λ reply. answers reply self.new ≡ put_row cluster table.now row.now cells.now said.now self.old) }
+        ensures calm { is_calm said.now ≡ true → IfOk result (λ reply. is_calm reply ≡ true) }
         ensures grows { IfOk result (λ _. size self.new ≤ size self.old + 1) }
     {
         let have = edit_length(table, row, cells.as_slice());
@@ -130,13 +139,18 @@ impl Machine {
         let before = commit_count(&side.commits, region) + pending_count(&host.pending, region);
         let seq = before as u64 + 1;
         let ticket = self.tickets.len() as u32 + 1;
+        let failed = fault_among(&[call_of(cluster, Call::Append)], said).is_some();
         let entry = Pending {
             region: hosted.region.copy(alloc)?,
             kind,
             marks: mark(cluster),
             origin: None,
-            ticket: Some(ticket),
+            ticket: ticket_of(failed, ticket),
         };
+        if failed {
+            append_pending(&mut self.side_mut(cluster).servers, server, entry, false)?;
+            return said.copy(alloc);
+        }
         append_pending(&mut self.side_mut(cluster).servers, server, entry, true)?;
         self.tickets.push(Ticket {
             cluster,

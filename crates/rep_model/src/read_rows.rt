@@ -1,7 +1,7 @@
 // The rows of reads.
-ghost use Rattle.std.specs.Prelude.{◌≡◌, IfOk};
+ghost use Rattle.std.specs.Prelude.{◌≡◌, true, IfOk};
 ghost use Rattle.rep_model.specs.Row.{answers};
-ghost use Rattle.rep_model.specs.Runs.{Tells, no_faults};
+ghost use Rattle.rep_model.specs.Calm.{is_calm};
 ghost use Rattle.rep_model.specs.Reads.{show_row};
 
 use crate::Machine;
@@ -12,15 +12,16 @@ use std::alloc::Global;
 
 impl Machine {
     /// The table's cells, whatever the places and the state.
-    #[tactic(auto, unfolding(crate::specs::Reads::show_row, crate::specs::Keyed::given))]
+    #[tactic(auto, using(crate::proofs::Calm::no_sites), unfolding(crate::specs::Reads::show_row, crate::specs::Keyed::given))]
     pub(crate) fn show(
         &self,
         alloc: Global,
         cluster: Cluster,
         table: &Name,
+        said: &Reply,
     ) -> Result<Reply, Memory>
-        ensures row { IfOk result (λ reply. answers reply self.now ≡ show_row cluster table.now reply self.now) }
-        ensures no_fault { IfOk result (λ reply. Tells reply no_faults no_faults) }
+        ensures row { IfOk result (λ reply. answers reply self.now ≡ show_row cluster table.now said.now self.now) }
+        ensures calm { is_calm said.now ≡ true → IfOk result (λ reply. is_calm reply ≡ true) }
     {
         let side = self.side(cluster);
         if find_table(&side.tables, table).is_none() {

@@ -1,11 +1,12 @@
 // The rows of tables and of regions that open.
-ghost use Rattle.std.specs.Prelude.{◌≡◌, ◌+◌, ◌^◌, ◌<◌, ◌≤◌, IfOk, length};
+ghost use Rattle.std.specs.Prelude.{◌≡◌, ◌+◌, ◌^◌, ◌<◌, ◌≤◌, true, IfOk, length};
 ghost use Rattle.rep_model.specs.Built.{size};
 ghost use Rattle.rep_model.specs.Row.{answers};
-ghost use Rattle.rep_model.specs.Runs.{Tells, no_faults};
+ghost use Rattle.rep_model.specs.Calm.{is_calm};
 ghost use Rattle.rep_model.specs.RegionEvents.{table_row, open_begin_row, open_end_row};
 
-use crate::change::{open_region, set_place, take_pending};
+use crate::change::{append_pending, open_region, set_place, take_pending};
+use crate::faults::{call_of, fault_among};
 use crate::lookup::{find_region, find_server, find_table};
 use crate::places::{is_off, opens_at};
 use crate::settle::{commit_count, pending_count};
@@ -13,7 +14,7 @@ use crate::side::mark;
 use crate::tickets::newly_acknowledged;
 use crate::{Hosted, Machine, Pending, Region, Table};
 use rep_types::{
-    Cluster, Duplicate, EntryKind, Families, Items, Memory, Name, PlaceOf, Refusal, RegionId,
+    Call, Cluster, Duplicate, EntryKind, Families, Items, Memory, Name, PlaceOf, Refusal, RegionId,
     Reply, ServerId,
 };
 use std::alloc::Global;
@@ -27,9 +28,10 @@ impl Machine {
         cluster: Cluster,
         table: &Name,
         specs: &Families,
+        said: &Reply,
     ) -> Result<Reply, Memory>
-        ensures row { IfOk result (λ reply. answers reply self.new ≡ table_row cluster table.now specs.now reply self.old) }
-        ensures no_fault { IfOk result (λ reply. Tells reply no_faults no_faults) }
+        ensures row { IfOk result (λ reply. answers reply self.new ≡ table_row cluster table.now specs.now said.now self.old) }
+        ensures calm { is_calm said.now ≡ true → IfOk result (λ reply. is_calm reply ≡ true) }
         ensures grows { IfOk result (λ _. size self.new ≤ size self.old + 1) }
     {
         let side = self.side_mut(cluster);
@@ -43,6 +45,9 @@ impl Machine {
         let Some(region) = RegionId::new(count as u32 + 1) else {
             return Ok(Reply::Refused(Refusal::TooMany));
         };
+        if fault_among(&[call_of(cluster, Call::Put)], said).is_some() {
+            return said.copy(alloc);
+        }
         side.tables.push(Table {
             name: table.copy(alloc)?,
             families: specs.copy(alloc)?,
@@ -70,12 +75,14 @@ impl Machine {
     #[tactic(auto, unfolding(crate::specs::RegionEvents::open_begin_row, crate::specs::Keyed::given))]
     pub(crate) fn open_begin(
         &mut self,
+        alloc: Global,
         cluster: Cluster,
         region: RegionId,
         server: ServerId,
+        said: &Reply,
     ) -> Result<Reply, Memory>
-        ensures row { IfOk result (λ reply. answers reply self.new ≡ open_begin_row cluster region server reply self.old) }
-        ensures no_fault { IfOk result (λ reply. Tells reply no_faults no_faults) }
+        ensures row { IfOk result (λ reply. answers reply self.new ≡ open_begin_row cluster region server said.now self.old) }
+        ensures calm { is_calm said.now ≡ true → IfOk result (λ reply. is_calm reply ≡ true) }
         ensures grows { IfOk result (λ _. size self.new ≤ size self.old + 1) }
     {
         let side = self.side(cluster);
@@ -92,6 +99,9 @@ impl Machine {
         if !is_off(&have) {
             return Ok(Reply::Refused(Refusal::WrongPlace { have }));
         }
+        if fault_among(&[call_of(cluster, Call::Put)], said).is_some() {
+            return said.copy(alloc);
+        }
         let barrier = commit_count(&side.commits, region) as u64 + 1;
         open_region(&mut self.side_mut(cluster).regions, region, server, barrier)?;
         Ok(Reply::Begun { barrier })
@@ -104,10 +114,11 @@ impl Machine {
         alloc: Global,
         cluster: Cluster,
         region: RegionId,
+        said: &Reply,
     ) -> Result<Reply, Memory>
         requires room { length self.old.tickets < 2 ^ 32 }
-        ensures row { IfOk result (λ reply. answers reply self.new ≡ open_end_row cluster region reply self.old) }
-        ensures no_fault { IfOk result (λ reply. Tells reply no_faults no_faults) }
+        ensures row { IfOk result (λ reply. answers reply self.new ≡ open_end_row cluster region said.now self.old) }
+        ensures calm { is_calm said.now ≡ true → IfOk result (λ reply. is_calm reply ≡ true) }
         ensures grows { IfOk result (λ _. size self.new ≤ size self.old + 1) }
     {
         let side = self.side(cluster);
@@ -141,6 +152,11 @@ impl Machine {
             origin: None,
             ticket: None,
         };
+        let sites = [call_of(cluster, Call::Append), call_of(cluster, Call::Sync)];
+        if fault_among(&sites, said).is_some() {
+            append_pending(&mut self.side_mut(cluster).servers, server, marker, false)?;
+            return said.copy(alloc);
+        }
         let told = Items::from_slice(alloc, self.tickets.as_slice())?;
         let side = self.side_mut(cluster);
         set_place(&mut side.regions, region, PlaceOf::On(server));

@@ -1,4 +1,4 @@
-use Rattle.std.proofs.Common.{◌≡◌, Some, not, false, find, nat_lt, rules}
+use Rattle.std.proofs.Common.{◌≡◌, [], ◌∷◌, Some, None, not, false, find, nat_lt, rules}
 use Rattle.std.specs.List.{list_all}
 use Rattle.rep_types.specs.Edit.{edit_length}
 use Rattle.rep_types.specs.declared.entry.EntryKind.TheVariants as kind
@@ -6,6 +6,8 @@ use Rattle.rep_model.specs.State.{of, is_server}
 use Rattle.rep_model.specs.Frames.{frame_length}
 use Rattle.rep_model.specs.Places.{on_at, is_named, serves, lacks_room}
 use Rattle.rep_model.specs.LogEvents.{put_edit, has_family, is_barred}
+use Rattle.rep_model.specs.Row.{fault_among, site}
+use Rattle.rep_types.specs.declared.state.Call.TheVariants as call
 use Rattle.rep_model.proofs.Puts.{put-done}
 use Rattle.rep_model.proofs.machine.Machine.put.Goals as goal
 
@@ -30,4 +32,5 @@ returns-clause-row c =
     let sn : srv.number ≡ s = c.in-Some-find_server.ensures.number in
     let whole : not srv.whole ≡ false = search rules in
     let room : lacks_room k srv (frame_length (kind.Write (put_edit table row cells))) m ≡ false = search rules in
-    put-done k table row cells m _ t h s srv _ _ _ short known families open_to found on there sn whole room (search rules) (search rules) (search rules) (search rules)
+    let done : fault_among (site k call.Append ∷ []) c.args.said.now ≡ None = search rules in
+    put-done k table row cells m _ t h s srv _ _ _ c.args.said.now short known families open_to found on there sn whole room done (search rules) (search rules) (search rules) (search rules)
