@@ -1,8 +1,11 @@
 pub mod Arriving
 pub mod Batches
+pub mod Closing
+pub mod Crashing
 pub mod Flying
 pub mod Forming
 pub mod Heads
+pub mod InPlace
 pub mod Markers
 pub mod Newly
 pub mod Puts

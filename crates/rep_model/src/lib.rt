@@ -3,9 +3,13 @@
 #![tactic(auto)]
 
 mod change;
+mod close_rows;
 mod copies;
+mod crash_rows;
 mod deliver_row;
+mod doubt;
 mod flights;
+mod flush_rows;
 mod forms;
 mod frames;
 mod log_rows;
@@ -17,6 +21,7 @@ mod put_row;
 mod queues;
 mod read_rows;
 mod region_rows;
+mod roll_row;
 mod room;
 mod settle;
 mod side;
