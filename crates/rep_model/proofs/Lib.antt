@@ -7,8 +7,10 @@ pub mod Forming
 pub mod Heads
 pub mod InPlace
 pub mod Markers
+pub mod Needing
 pub mod Newly
 pub mod Puts
 pub mod Replacing
+pub mod Retiring
 pub mod Runs
 pub mod Seeing

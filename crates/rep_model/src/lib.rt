@@ -25,7 +25,9 @@ mod roll_row;
 mod room;
 mod settle;
 mod side;
+mod split_rows;
 mod step;
+mod sweep_row;
 mod tickets;
 mod views;
 
