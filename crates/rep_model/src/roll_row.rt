@@ -2,7 +2,7 @@
 ghost use Rattle.std.specs.Prelude.{◌≡◌, ◌+◌, ◌-◌, [], ◌^◌, ◌<◌, ◌≤◌, true, find, IfOk, IfSome, length};
 ghost use Rattle.rep_model.specs.Built.{size};
 ghost use Rattle.rep_model.specs.Keyed.{replace};
-ghost use Rattle.rep_model.specs.LogEvents.{log_of, roll_row};
+ghost use Rattle.rep_model.specs.LogEvents.{roll_row};
 ghost use Rattle.rep_model.specs.Row.{answers};
 ghost use Rattle.rep_model.specs.Runs.{Tells, no_faults};
 ghost use Rattle.rep_model.specs.State.{is_server, server_of, of, with};
@@ -70,7 +70,6 @@ impl Machine {
         server: ServerId,
     ) -> Result<Reply, Memory>
         requires room { length self.old.tickets < 2 ^ 32 }
-        requires log { log_of cluster server self.old < 2 ^ 32 - 1 }
         ensures row { IfOk result (λ reply. answers reply self.new ≡ roll_row cluster server reply self.old) }
         ensures no_fault { IfOk result (λ reply. Tells reply no_faults no_faults) }
         ensures grows { IfOk result (λ _. size self.new ≤ size self.old + 1) }
@@ -86,7 +85,9 @@ impl Machine {
         if host.whole && count != 0 {
             return Ok(Reply::Refused(Refusal::Pending { count }));
         }
-        let log = host.log + 1;
+        let Some(log) = host.log.checked_add(1) else {
+            return Err(Memory);
+        };
         let dual = is_dual(&side.link);
         if dual && self.side(other(cluster)).link.folder.is_none() {
             return Ok(Reply::Refused(Refusal::Fenced));

@@ -1,13 +1,11 @@
 // The rows of regions that split and merge.
 ghost use Rattle.std.specs.Prelude.{◌≡◌, ◌+◌, ◌-◌, [], ◌∷◌, ◌^◌, ◌<◌, ◌≤◌, false, max, IfOk};
 ghost use Rattle.rep_model.specs.Built.{size};
-ghost use Rattle.rep_model.specs.Keyed.{given};
 ghost use Rattle.rep_model.specs.Places.{closes_last};
 ghost use Rattle.rep_model.specs.RegionEvents.{hosted, splits, split_row, merge_row};
 ghost use Rattle.rep_model.specs.Regions.{is_adjacent, same_key};
 ghost use Rattle.rep_model.specs.Row.{answers};
 ghost use Rattle.rep_model.specs.Runs.{Tells, no_faults};
-ghost use Rattle.rep_model.specs.State.{region_of};
 
 use crate::copies::copy_bound;
 use crate::flush_rows::flush_region;
@@ -79,7 +77,6 @@ fn daughter(
     low: Option<Key>,
     high: Option<Key>,
 ) -> Result<Hosted, Memory>
-    requires { region.now.generation < 2 ^ 32 - 1 }
     ensures { IfOk result (λ made. made ≡ hosted (record {
       number = number;
       table = region.now.table;
@@ -89,6 +86,9 @@ fn daughter(
       generation = region.now.generation + 1;
     })) }
 {
+    let Some(generation) = region.generation.checked_add(1) else {
+        return Err(Memory);
+    };
     let mut parents = Items::new(alloc);
     parents.push(region.number)?;
     Ok(Hosted {
@@ -98,7 +98,7 @@ fn daughter(
             low,
             high,
             parents,
-            generation: region.generation + 1,
+            generation,
         },
         place: PlaceOf::Off,
         opens: Items::new(alloc),
@@ -108,8 +108,6 @@ fn daughter(
 
 // The region that two adjacent ones become.
 fn join(alloc: Global, number: RegionId, low: &Region, high: &Region) -> Result<Hosted, Memory>
-    requires low { low.now.generation < 2 ^ 32 - 1 }
-    requires high { high.now.generation < 2 ^ 32 - 1 }
     ensures { IfOk result (λ made. made ≡ hosted (record {
       number = number;
       table = low.now.table;
@@ -119,6 +117,9 @@ fn join(alloc: Global, number: RegionId, low: &Region, high: &Region) -> Result<
       generation = max low.now.generation high.now.generation + 1;
     })) }
 {
+    let Some(generation) = low.generation.max(high.generation).checked_add(1) else {
+        return Err(Memory);
+    };
     let mut parents = Items::new(alloc);
     parents.push(low.number)?;
     parents.push(high.number)?;
@@ -129,7 +130,7 @@ fn join(alloc: Global, number: RegionId, low: &Region, high: &Region) -> Result<
             low: copy_bound(alloc, &low.low)?,
             high: copy_bound(alloc, &high.high)?,
             parents,
-            generation: low.generation.max(high.generation) + 1,
+            generation,
         },
         place: PlaceOf::Off,
         opens: Items::new(alloc),
@@ -147,7 +148,6 @@ impl Machine {
         region: RegionId,
         key: &Key,
     ) -> Result<Reply, Memory>
-        requires generation { given (region_of cluster region self.old) 0 (λ h. h.region.generation) < 2 ^ 32 - 1 }
         ensures row { IfOk result (λ reply. answers reply self.new ≡ split_row cluster region key.now reply self.old) }
         ensures no_fault { IfOk result (λ reply. Tells reply no_faults no_faults) }
         ensures grows { IfOk result (λ _. size self.new ≤ size self.old + 1) }
@@ -195,33 +195,31 @@ impl Machine {
         &mut self,
         alloc: Global,
         cluster: Cluster,
-        region: RegionId,
-        other: RegionId,
+        low: RegionId,
+        high: RegionId,
     ) -> Result<Reply, Memory>
-        requires low { given (region_of cluster region self.old) 0 (λ h. h.region.generation) < 2 ^ 32 - 1 }
-        requires high { given (region_of cluster other self.old) 0 (λ h. h.region.generation) < 2 ^ 32 - 1 }
-        ensures row { IfOk result (λ reply. answers reply self.new ≡ merge_row cluster region other reply self.old) }
+        ensures row { IfOk result (λ reply. answers reply self.new ≡ merge_row cluster low high reply self.old) }
         ensures no_fault { IfOk result (λ reply. Tells reply no_faults no_faults) }
         ensures grows { IfOk result (λ _. size self.new ≤ size self.old + 1) }
     {
         let side = self.side(cluster);
-        let Some(low) = find_region(&side.regions, region) else {
+        let Some(lower) = find_region(&side.regions, low) else {
             return Ok(Reply::Refused(Refusal::NoRegion));
         };
-        let Some(high) = find_region(&side.regions, other) else {
+        let Some(upper) = find_region(&side.regions, high) else {
             return Ok(Reply::Refused(Refusal::NoRegion));
         };
-        if !is_off(&low.place) {
-            return Ok(Reply::Refused(Refusal::WrongPlace { have: low.place }));
+        if !is_off(&lower.place) {
+            return Ok(Reply::Refused(Refusal::WrongPlace { have: lower.place }));
         }
-        if !is_off(&high.place) {
-            return Ok(Reply::Refused(Refusal::WrongPlace { have: high.place }));
+        if !is_off(&upper.place) {
+            return Ok(Reply::Refused(Refusal::WrongPlace { have: upper.place }));
         }
         let commits = side.commits.as_slice();
-        if !is_closed(region, commits) || !is_closed(other, commits) {
+        if !is_closed(low, commits) || !is_closed(high, commits) {
             return Ok(Reply::Refused(Refusal::NotClosed));
         }
-        if !is_adjacent(&low.region, &high.region) {
+        if !is_adjacent(&lower.region, &upper.region) {
             return Ok(Reply::Refused(Refusal::NotAdjacent));
         }
         let count = side.regions.len();
@@ -231,12 +229,12 @@ impl Machine {
         let Some(number) = RegionId::new(count as u32 + 1) else {
             return Ok(Reply::Refused(Refusal::TooMany));
         };
-        let whole = join(alloc, number, &low.region, &high.region)?;
-        let flushed = commit_count(&side.commits, region) as u64;
-        let other_flushed = commit_count(&side.commits, other) as u64;
+        let whole = join(alloc, number, &lower.region, &upper.region)?;
+        let low_flushed = commit_count(&side.commits, low) as u64;
+        let high_flushed = commit_count(&side.commits, high) as u64;
         let regions = &mut self.side_mut(cluster).regions;
-        flush_region(regions, region, flushed, PlaceOf::Gone);
-        flush_region(regions, other, other_flushed, PlaceOf::Gone);
+        flush_region(regions, low, low_flushed, PlaceOf::Gone);
+        flush_region(regions, high, high_flushed, PlaceOf::Gone);
         regions.push(whole)?;
         Ok(Reply::Made { region: number })
     }

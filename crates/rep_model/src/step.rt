@@ -12,6 +12,7 @@ use std::alloc::Global;
 
 impl Machine {
     /// The event's row: its reply, and the state after it. The events are those that are built.
+    /// The error comes also where a log or a generation has no next number of 32 bits.
     pub fn step(&mut self, alloc: Global, event: &Event) -> Result<Reply, Memory>
         requires built { is_built event.now ≡ true }
         requires worded { is_worded event.now ≡ true }
@@ -48,11 +49,19 @@ impl Machine {
             } => self.get(alloc, *cluster, table, row),
             Event::Show { cluster, table } => self.show(alloc, *cluster, table),
             Event::Sync { cluster, server } => self.sync(alloc, *cluster, *server),
+            Event::Roll { cluster, server } => self.roll(alloc, *cluster, *server),
             Event::Crash { cluster, server } => self.crash(alloc, *cluster, *server),
             Event::Seal { cluster, server } => self.seal(alloc, *cluster, *server),
             Event::Recover { cluster, region } => self.recover(*cluster, *region),
+            Event::Split {
+                cluster,
+                region,
+                key,
+            } => self.split(alloc, *cluster, *region, key),
+            Event::Merge { cluster, low, high } => self.merge(alloc, *cluster, *low, *high),
             Event::Flush { cluster, region } => self.flush(*cluster, *region),
             Event::Compact { cluster, region } => self.compact(*cluster, *region),
+            Event::Sweep { cluster, server } => self.sweep(*cluster, *server),
             Event::Peer {
                 cluster,
                 peer,

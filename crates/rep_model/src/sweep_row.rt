@@ -3,12 +3,12 @@ ghost use Rattle.std.specs.Prelude.{◌≡◌, ◌+◌, ◌-◌, ◌==◌, ◌&&
 ghost use Rattle.std.specs.List.{list_any};
 ghost use Rattle.rep_model.specs.Built.{size};
 ghost use Rattle.rep_model.specs.Commits.{log_commits, stands_in};
-ghost use Rattle.rep_model.specs.Keyed.{given, if_some, replace};
+ghost use Rattle.rep_model.specs.Keyed.{if_some, replace};
 ghost use Rattle.rep_model.specs.Needs.{peer_needs, lowest_peer, lowest_region, log_needer};
 ghost use Rattle.rep_model.specs.RegionEvents.{has_no_log, sweep_row};
 ghost use Rattle.rep_model.specs.Row.{answers};
 ghost use Rattle.rep_model.specs.Runs.{Tells, no_faults};
-ghost use Rattle.rep_model.specs.State.{is_server, is_region, server_of};
+ghost use Rattle.rep_model.specs.State.{is_server, is_region};
 
 use crate::flights::is_removed;
 use crate::lookup::{find_region, find_server, server_place};
@@ -142,7 +142,6 @@ impl Machine {
     /// The lowest log left goes, once nobody needs it.
     #[tactic(auto, unfolding(crate::specs::RegionEvents::sweep_row, crate::specs::Keyed::given))]
     pub(crate) fn sweep(&mut self, cluster: Cluster, server: ServerId) -> Result<Reply, Memory>
-        requires log { given (server_of cluster server self.old) 0 (λ srv. srv.lowest) < 2 ^ 32 - 1 }
         ensures row { IfOk result (λ reply. answers reply self.new ≡ sweep_row cluster server reply self.old) }
         ensures no_fault { IfOk result (λ reply. Tells reply no_faults no_faults) }
         ensures grows { IfOk result (λ _. size self.new ≤ size self.old + 1) }
@@ -158,7 +157,10 @@ impl Machine {
         if let Some(by) = side.log_needer(server, log) {
             return Ok(Reply::Refused(Refusal::Needed { by }));
         }
-        sweep_log(&mut self.side_mut(cluster).servers, server, log + 1);
+        let Some(next) = log.checked_add(1) else {
+            return Err(Memory);
+        };
+        sweep_log(&mut self.side_mut(cluster).servers, server, next);
         Ok(Reply::Swept { log })
     }
 }

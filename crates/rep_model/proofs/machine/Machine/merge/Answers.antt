@@ -16,10 +16,10 @@ pub returns-clause-row : goal.returns-clause-row
 returns-clause-row c =
     let k = c.args.cluster in
     let m = c.args.self.now in
-    let r = c.args.region in
-    let s = c.args.other in
-    let g = c.in-Some.low.now in
-    let h = c.in-Some-find_region.high.now in
+    let r = c.args.low in
+    let s = c.args.high in
+    let g = c.in-Some.lower.now in
+    let h = c.in-Some-find_region.upper.now in
     let one = c.flush_region.new.regions in
     let two = c.flush_region-2.new.regions in
     let whole = c.in_ok-whole.whole in

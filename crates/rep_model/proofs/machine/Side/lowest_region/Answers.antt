@@ -1,7 +1,6 @@
-use Rattle.std.proofs.Common.{◌≡◌, ◌<◌, ◌≤◌, ◌-◌, Option, length, drop, get_or, true, false, min, MatchOption, ap, sym, ◌∙◌, ℕ}
+use Rattle.std.proofs.Common.{◌≡◌, ◌≤◌, ◌-◌, length, drop, get_or, min, MatchOption, ap, sym, ◌∙◌}
 use Rattle.rep_model.specs.Commits.{log_commits}
 use Rattle.rep_model.specs.Needs.{lowest_region}
-use Rattle.rep_model.specs.declared.machine.Commit.{Commit}
 use Rattle.rep_model.proofs.Needing.{drop-before, lowest-with, lowest-without}
 use Rattle.rep_model.proofs.machine.Side.lowest_region.Goals as goal
 
