@@ -1,12 +1,17 @@
 pub mod Arriving
 pub mod Batches
 pub mod Calm
+pub mod Closing
+pub mod Crashing
 pub mod Flying
 pub mod Forming
 pub mod Heads
+pub mod InPlace
 pub mod Markers
+pub mod Needing
 pub mod Newly
 pub mod Puts
 pub mod Replacing
+pub mod Retiring
 pub mod Runs
 pub mod Seeing

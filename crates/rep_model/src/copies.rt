@@ -5,7 +5,7 @@ use crate::{Commit, Region, Table};
 use rep_types::{Duplicate, Items, Key, Memory};
 use std::alloc::Global;
 
-fn copy_bound(alloc: Global, bound: &Option<Key>) -> Result<Option<Key>, Memory>
+pub fn copy_bound(alloc: Global, bound: &Option<Key>) -> Result<Option<Key>, Memory>
     ensures { IfOk result (λ copy. copy ≡ bound.now) }
 {
     match bound {

@@ -3,10 +3,14 @@
 #![tactic(auto)]
 
 mod change;
+mod close_rows;
 mod copies;
+mod crash_rows;
 mod deliver_row;
 mod faults;
+mod doubt;
 mod flights;
+mod flush_rows;
 mod forms;
 mod frames;
 mod log_rows;
@@ -18,10 +22,13 @@ mod put_row;
 mod queues;
 mod read_rows;
 mod region_rows;
+mod roll_row;
 mod room;
 mod settle;
 mod side;
+mod split_rows;
 mod step;
+mod sweep_row;
 mod tickets;
 mod views;
 

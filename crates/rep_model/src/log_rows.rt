@@ -21,7 +21,8 @@ use crate::{Link, Machine, Peer, Queue, RemoteCopy, Server, Side, Site};
 use rep_types::{Call, Cluster, Duplicate, Items, Memory, Phase, Refusal, Reply, ServerId};
 use std::alloc::Global;
 
-fn is_dual(link: &Link) -> bool
+/// Whether a new log has a remote copy.
+pub fn is_dual(link: &Link) -> bool
     ensures { result ≡ is_dual_in link.now.state link.now.phase }
 {
     match link.phase {
@@ -119,7 +120,8 @@ impl Side {
 }
 
 impl Machine {
-    fn make_copy(
+    /// Of a dual log, its remote copy in the standing folder.
+    pub(crate) fn make_copy(
         &mut self,
         alloc: Global,
         dual: bool,

@@ -16,7 +16,7 @@ fn is_from(low: &Option<Key>, row: &Key) -> bool
     }
 }
 
-fn is_below(row: &Key, high: &Option<Key>) -> bool
+pub fn is_below(row: &Key, high: &Option<Key>) -> bool
     ensures { result ≡ is_below row.now high.now }
 {
     match high {

@@ -2,15 +2,54 @@
 ghost use Rattle.std.specs.Prelude.{◌≡◌, true, IfOk};
 ghost use Rattle.rep_model.specs.Row.{answers};
 ghost use Rattle.rep_model.specs.Calm.{is_calm};
-ghost use Rattle.rep_model.specs.Reads.{show_row};
+ghost use Rattle.rep_model.specs.Reads.{get_row, show_row};
 
 use crate::Machine;
-use crate::lookup::find_table;
-use crate::views::{see, table_edits};
-use rep_types::{Cluster, Memory, Name, Refusal, Reply};
+use crate::lookup::{find_server, find_serving, find_table};
+use crate::places::on_at;
+use crate::views::{row_edits, see, table_edits};
+use rep_types::{Cluster, Key, Memory, Name, Refusal, RegionId, Reply};
 use std::alloc::Global;
 
 impl Machine {
+    /// The row's cells, where a server serves it.
+    #[tactic(auto, unfolding(crate::specs::Reads::get_row, crate::specs::Keyed::given))]
+    pub(crate) fn get(
+        &self,
+        alloc: Global,
+        cluster: Cluster,
+        table: &Name,
+        row: &Key,
+    ) -> Result<Reply, Memory>
+        ensures row { IfOk result (λ reply. answers reply self.now ≡ get_row cluster table.now row.now reply self.now) }
+        ensures no_fault { IfOk result (λ reply. Tells reply no_faults no_faults) }
+    {
+        let side = self.side(cluster);
+        if find_table(&side.tables, table).is_none() {
+            return Ok(Reply::Refused(Refusal::NoTable));
+        }
+        if self.is_barred(cluster, table) {
+            return Ok(Reply::Refused(Refusal::Standby));
+        }
+        let Some(hosted) = find_serving(&side.regions, table, row) else {
+            let Some(region) = RegionId::new(1) else {
+                unreachable!()
+            };
+            return Ok(Reply::Refused(Refusal::NotServing { region }));
+        };
+        let region = hosted.region.number;
+        let Some(server) = on_at(&hosted.place) else {
+            return Ok(Reply::Refused(Refusal::NotServing { region }));
+        };
+        if find_server(&side.servers, server).is_none() {
+            return Ok(Reply::Refused(Refusal::NotServing { region }));
+        }
+        let edits = row_edits(alloc, side.written.as_slice(), table, row)?;
+        Ok(Reply::Shown {
+            cells: see(alloc, edits.as_slice())?,
+        })
+    }
+
     /// The table's cells, whatever the places and the state.
     #[tactic(auto, using(crate::proofs::Calm::no_sites), unfolding(crate::specs::Reads::show_row, crate::specs::Keyed::given))]
     pub(crate) fn show(
