@@ -1,5 +1,6 @@
 pub mod Arriving
 pub mod Batches
+pub mod Changing
 pub mod Flying
 pub mod Forming
 pub mod Heads

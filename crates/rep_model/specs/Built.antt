@@ -13,9 +13,15 @@ is_built (event.Put c t k cells) = true
 is_built (event.Show c t) = true
 is_built (event.Sync c s) = true
 is_built (event.Peer c p k ts) = true
+is_built (event.Enable c p) = true
+is_built (event.Disable c p) = true
+is_built (event.Remove c p) = true
+is_built (event.MakeSerial c p) = true
 is_built (event.Send c p s n) = true
 is_built (event.Deliver f) = true
+is_built (event.Lose f) = true
 is_built (event.Confirm f) = true
+is_built (event.Claim c by s p) = true
 is_built _ = false
 
 -- tickets and flights have numbers of 32 bits, and each event makes at most one of each

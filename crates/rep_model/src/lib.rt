@@ -3,6 +3,8 @@
 #![tactic(auto)]
 
 mod change;
+mod change_rows;
+mod claim_rows;
 mod copies;
 mod deliver_row;
 mod flights;

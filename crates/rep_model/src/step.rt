@@ -47,6 +47,10 @@ impl Machine {
                 kind,
                 tables,
             } => self.peer(alloc, *cluster, *peer, *kind, tables),
+            Event::Enable { cluster, peer } => Ok(self.enable(*cluster, *peer)),
+            Event::Disable { cluster, peer } => Ok(self.disable(*cluster, *peer)),
+            Event::Remove { cluster, peer } => self.remove(alloc, *cluster, *peer),
+            Event::MakeSerial { cluster, peer } => Ok(self.make_serial(*cluster, *peer)),
             Event::Send {
                 cluster,
                 peer,
@@ -54,7 +58,14 @@ impl Machine {
                 most,
             } => self.send(alloc, *cluster, *peer, *server, *most),
             Event::Deliver { flight } => self.deliver(alloc, *flight),
+            Event::Lose { flight } => Ok(self.lose(*flight)),
             Event::Confirm { flight } => self.confirm(alloc, *flight),
+            Event::Claim {
+                cluster,
+                by,
+                server,
+                peer,
+            } => Ok(self.claim(*cluster, *by, *server, *peer)),
             _ => unreachable!(),
         }
     }
