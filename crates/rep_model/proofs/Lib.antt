@@ -4,9 +4,12 @@ pub mod Changing
 pub mod Flying
 pub mod Forming
 pub mod Heads
+pub mod InPlace
+pub mod Lowest
 pub mod Markers
 pub mod Newly
 pub mod Puts
 pub mod Replacing
+pub mod Restarting
 pub mod Runs
 pub mod Seeing

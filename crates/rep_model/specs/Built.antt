@@ -22,6 +22,9 @@ is_built (event.Deliver f) = true
 is_built (event.Lose f) = true
 is_built (event.Confirm f) = true
 is_built (event.Claim c by s p) = true
+is_built (event.TransitBegin c to) = true
+is_built (event.TransitEnd c) = true
+is_built (event.MakeFolder c) = true
 is_built _ = false
 
 -- tickets and flights have numbers of 32 bits, and each event makes at most one of each

@@ -282,12 +282,12 @@ least n None = Some n
 least n (Some k) = Some (min n k)
 
 -- the lowest server that passes the test
-abbrev lowest_server : (Server → Bool) → List Server → Option ℕ
+abbrev pub lowest_server : (Server → Bool) → List Server → Option ℕ
 lowest_server test [] = None
 lowest_server test (s ∷ ss) = if test s then least s.number (lowest_server test ss) else lowest_server test ss
 
 -- a live server whose current log is of the other kind than the target needs
-abbrev has_other_kind : SyncState → Server → Bool
+abbrev pub has_other_kind : SyncState → Server → Bool
 has_other_kind to srv = srv.live && (if is_active to then not srv.dual else srv.dual)
 
 abbrev or_else : Option ℕ → Option ℕ → Option ℕ
@@ -303,10 +303,10 @@ abbrev all_logs : ℕ → ℕ → Bool
 all_logs s l = true
 
 -- the synchronous peer starts again behind the present commits, with the queues that a new peer would get
-abbrev restarted : ℕ → Peer → Peer
+abbrev pub restarted : ℕ → Peer → Peer
 restarted start x = if is_synchronous x.kind then record x { start = start; serial_start = start } else x
 
-abbrev restart_queues : List Server → List Peer → List Queue → List Queue
+abbrev pub restart_queues : List Server → List Peer → List Queue → List Queue
 restart_queues servers [] qs = qs
 restart_queues servers (p ∷ ps) qs =
     if is_synchronous p.kind then restart_queues servers ps (other_queues p.number qs ++ new_queues p.number servers) else restart_queues servers ps qs
@@ -332,7 +332,7 @@ transit_end_row c said m =
 
 -- makefolder
 
-abbrev lacks_folder : Phase → Bool
+abbrev pub lacks_folder : Phase → Bool
 lacks_folder phase.Idle = false
 lacks_folder (phase.To to) = false
 lacks_folder phase.NoFolder = true

@@ -19,12 +19,15 @@ mod put_row;
 mod queues;
 mod read_rows;
 mod region_rows;
+mod restart;
 mod room;
 mod settle;
 mod side;
 mod step;
 mod tickets;
+mod transit_rows;
 mod views;
+mod waiting;
 
 pub use machine::{
     Commit, Flight, Form, Hosted, Link, Machine, Peer, Pending, Queue, Region, RemoteCopy, Server,

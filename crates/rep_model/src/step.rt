@@ -66,6 +66,9 @@ impl Machine {
                 server,
                 peer,
             } => Ok(self.claim(*cluster, *by, *server, *peer)),
+            Event::TransitBegin { cluster, state } => Ok(self.transit_begin(*cluster, *state)),
+            Event::TransitEnd { cluster } => self.transit_end(alloc, *cluster),
+            Event::MakeFolder { cluster } => self.make_folder(*cluster),
             _ => unreachable!(),
         }
     }
