@@ -1,6 +1,7 @@
 pub mod Arriving
 pub mod Batches
 pub mod Changing
+pub mod Filters
 pub mod Flying
 pub mod Forming
 pub mod Heads
@@ -9,7 +10,9 @@ pub mod Lowest
 pub mod Markers
 pub mod Newly
 pub mod Puts
+pub mod RemoteCopies
 pub mod Replacing
 pub mod Restarting
 pub mod Runs
 pub mod Seeing
+pub mod Sweeping

@@ -208,11 +208,11 @@ abbrev is_in_use : Cluster → ℕ → Machine → RemoteCopy → Bool
 is_in_use c s m k = if_some (server_of c s m) (λ srv. (srv.log == k.log) && not srv.sealed)
 
 -- a commit of the log stands before the peer's present start or isn't recorded
-abbrev peer_needs_copy : List Commit → RemoteCopy → Peer → Bool
+abbrev pub peer_needs_copy : List Commit → RemoteCopy → Peer → Bool
 peer_needs_copy commits k p = nat_lt (length (log_commits k.server k.log (drop p.start commits))) (length (log_commits k.server k.log commits))
     || list_any (λ x. not (stands_in p.recorded x)) (log_commits k.server k.log commits)
 
-abbrev copy_needer : List Commit → RemoteCopy → List Peer → Option ℕ
+abbrev pub copy_needer : List Commit → RemoteCopy → List Peer → Option ℕ
 copy_needer commits k [] = None
 copy_needer commits k (p ∷ ps) = if is_synchronous p.kind && peer_needs_copy commits k p then Some p.number else copy_needer commits k ps
 

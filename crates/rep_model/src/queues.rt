@@ -39,7 +39,7 @@ pub fn stands_in(entries: &[Commit], entry: &Commit) -> bool
 }
 
 /// The commits from this place on.
-fn after(commits: &[Commit], start: u64) -> &[Commit]
+pub fn after(commits: &[Commit], start: u64) -> &[Commit]
     ensures { result.now ≡ drop start commits.now }
 {
     let start = (start as usize).min(commits.len());
