@@ -27,6 +27,9 @@ is_built (event.Mirror c s) = true
 is_built (event.TransitBegin c to) = true
 is_built (event.TransitEnd c) = true
 is_built (event.MakeFolder c) = true
+is_built (event.PromoteBegin c) = true
+is_built (event.Replay c) = true
+is_built (event.PromoteEnd c) = true
 is_built _ = false
 
 -- tickets and flights have numbers of 32 bits, and each event makes at most one of each

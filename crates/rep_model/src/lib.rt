@@ -16,6 +16,7 @@ mod machine;
 mod mirror_rows;
 mod peer_row;
 mod places;
+mod promotion_rows;
 mod put_row;
 mod queues;
 mod read_rows;

@@ -71,6 +71,9 @@ impl Machine {
             Event::TransitBegin { cluster, state } => Ok(self.transit_begin(*cluster, *state)),
             Event::TransitEnd { cluster } => self.transit_end(alloc, *cluster),
             Event::MakeFolder { cluster } => self.make_folder(*cluster),
+            Event::PromoteBegin { cluster } => self.promote_begin(alloc, *cluster),
+            Event::Replay { cluster } => self.replay(alloc, *cluster),
+            Event::PromoteEnd { cluster } => Ok(self.promote_end(*cluster)),
             _ => unreachable!(),
         }
     }
