@@ -81,22 +81,14 @@ pub fn unready(to: SyncState, servers: &[Server]) -> Option<ServerId>
     }
 }
 
-fn restarted(start: u64, peer: Peer) -> Peer
+fn restarted(start: u64, mut peer: Peer) -> Peer
     ensures { result ≡ restarted start peer }
 {
     if is_synchronous(peer.kind) {
-        Peer {
-            number: peer.number,
-            kind: peer.kind,
-            tables: peer.tables,
-            standing: peer.standing,
-            start,
-            serial_start: start,
-            recorded: peer.recorded,
-        }
-    } else {
-        peer
+        peer.start = start;
+        peer.serial_start = start;
     }
+    peer
 }
 
 // The synchronous peers start behind so many commits.
