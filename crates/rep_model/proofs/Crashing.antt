@@ -1,6 +1,7 @@
 -- The row of a server that dies, once its refusals are decided.
 use Rattle.std.proofs.Common.{◌≡◌, ℕ, ◌==◌, not, false, List, Some, refl, find, map}
 use Rattle.rep_types.specs.declared.ids.Cluster.{Cluster}
+use Rattle.rep_types.specs.declared.reply.Reply.{Reply}
 use Rattle.rep_types.specs.declared.reply.Reply.TheVariants as reply
 use Rattle.rep_model.specs.Keyed.{given, replace}
 use Rattle.rep_model.specs.State.{of, with, is_server}
@@ -13,8 +14,9 @@ use Rattle.rep_model.specs.declared.machine.Machine.{Machine}
 use Rattle.rep_model.specs.declared.machine.Hosted.{Hosted}
 use Rattle.rep_model.specs.declared.machine.Server.{Server}
 use Rattle.rep_model.specs.declared.machine.Told.TheVariants as told
+use Rattle.rep_model.proofs.Calm.{no_sites}
 
-pub crash-done : (c : Cluster) (s : ℕ) (m after : Machine) (srv : Server) (ended : List ℕ) →
+pub crash-done : (c : Cluster) (s : ℕ) (m after : Machine) (srv : Server) (ended : List ℕ) (said : Reply) →
     find (is_server s) (of c m).servers ≡ Some srv →
     srv.number ≡ s →
     not srv.live ≡ false →
@@ -23,7 +25,7 @@ pub crash-done : (c : Cluster) (s : ℕ) (m after : Machine) (srv : Server) (end
       servers = replace (is_server s) (record srv { live = false }) (of c m).servers;
       regions = map (λ (h : Hosted). moved (after_death s h.place) h) (of c m).regions;
     }) m) { tickets = tell_waiting c (λ t log. t == s) (λ _. told.Doubtful) (doubt_pending srv.pending m.tickets) } →
-    answers (reply.Crashed ended) after ≡ crash_row c s (reply.Crashed ended) m
+    answers (reply.Crashed ended) after ≡ crash_row c s said m
 unfolding crash_row given
-crash-done c s m after srv ended found sn lives counted left =
-    rw (found, lives) (rw (counted, left) (rw sn refl))
+crash-done c s m after srv ended said found sn lives counted left =
+    rw (found, lives, no_sites said) (rw (counted, left) (rw sn refl))

@@ -29,12 +29,12 @@ same_number : (a b : ℕ) → (a == b) ≡ true → a ≡ b
 same_number a b h = grind (arith, nat_tests)
 
 -- with what stands there, a machine is itself; and what isn't of a side stays
-with-queues : (c : Cluster) (m : Machine) → with c (record (of c m) { queues = (of c m).queues }) m ≡ m
+pub with-queues : (c : Cluster) (m : Machine) → with c (record (of c m) { queues = (of c m).queues }) m ≡ m
 with-queues A m = refl
 with-queues B m = refl
 with-queues C m = refl
 
-with-peers : (c : Cluster) (m : Machine) → with c (record (of c m) { peers = (of c m).peers }) m ≡ m
+pub with-peers : (c : Cluster) (m : Machine) → with c (record (of c m) { peers = (of c m).peers }) m ≡ m
 with-peers A m = refl
 with-peers B m = refl
 with-peers C m = refl
@@ -49,13 +49,13 @@ with-tickets A s m = refl
 with-tickets B s m = refl
 with-tickets C s m = refl
 
-queue-own : (p s : ℕ) (xs : List Queue) (q y : Queue) → find (is_queue p s) xs ≡ Some q → replace (is_queue p s) y xs ≡ replace (is_queue q.peer q.server) y xs
+pub queue-own : (p s : ℕ) (xs : List Queue) (q y : Queue) → find (is_queue p s) xs ≡ Some q → replace (is_queue p s) y xs ≡ replace (is_queue q.peer q.server) y xs
 queue-own p s xs q y h =
     let is = both_true (q.peer == p) (q.server == s) (find-passes (is_queue p s) xs q h) in
     ap (λ (k : ℕ). replace (is_queue k s) y xs) (sym (same_number q.peer p is.0))
     ∙ ap (λ (k : ℕ). replace (is_queue q.peer k) y xs) (sym (same_number q.server s is.1))
 
-peer-own : (p : ℕ) (xs : List Peer) (x y : Peer) → find (is_peer p) xs ≡ Some x → replace (is_peer p) y xs ≡ replace (is_peer x.number) y xs
+pub peer-own : (p : ℕ) (xs : List Peer) (x y : Peer) → find (is_peer p) xs ≡ Some x → replace (is_peer p) y xs ≡ replace (is_peer x.number) y xs
 peer-own p xs x y h = ap (λ (k : ℕ). replace (is_peer k) y xs) (sym (same_number x.number p (find-passes (is_peer p) xs x h)))
 
 flown-at : (c : Cluster) (p s : ℕ) (flight : Option ℕ) (m : Machine) (qs : List Queue) → MatchOption (find (is_queue p s) (of c m).queues) (qs ≡ (of c m).queues) (λ x. qs ≡ replace (is_queue p s) (record x { flight = flight }) (of c m).queues) → with c (record (of c m) { queues = qs }) m ≡ flown c p s flight m

@@ -1,9 +1,11 @@
 -- The rows of regions that split and merge, once their refusals are decided.
-use Rattle.std.proofs.Common.{◌≡◌, ℕ, ◌+◌, not, nat_lt, Bool, true, false, cond, List, [], ◌∷◌, ◌++◌, Some, refl, ap, sym, ◌∙◌, find, length, append_assoc, IfSome, arith, eqb, max}
+use Rattle.std.proofs.Common.{◌≡◌, ℕ, ◌+◌, not, nat_lt, Bool, true, false, cond, List, [], ◌∷◌, ◌++◌, Some, None, refl, ap, sym, ◌∙◌, find, length, append_assoc, IfSome, arith, eqb, max}
 use Rattle.std.proofs.lemmas.Bool.Decides.{nat_tests}
 use Rattle.rep_types.specs.declared.ids.Cluster.{Cluster}
 use Rattle.rep_types.specs.declared.ids.Cluster.TheVariants.{A, B, C}
 use Rattle.rep_types.specs.declared.state.PlaceOf.TheVariants as place
+use Rattle.rep_types.specs.declared.reply.Reply.{Reply}
+use Rattle.rep_types.specs.declared.state.Call.TheVariants as call
 use Rattle.rep_types.specs.declared.reply.Reply.TheVariants as reply
 use Rattle.rep_model.specs.Keyed.{given, replace}
 use Rattle.rep_model.specs.State.{of, with, is_region}
@@ -11,7 +13,7 @@ use Rattle.rep_model.specs.Commits.{commit_count}
 use Rattle.rep_model.specs.Places.{is_off, is_closed}
 use Rattle.rep_model.specs.Regions.{is_adjacent}
 use Rattle.rep_model.specs.RegionEvents.{hosted, moved, splits, split_row, merge_row}
-use Rattle.rep_model.specs.Row.{answers}
+use Rattle.rep_model.specs.Row.{answers, fault_among, run_sites, site}
 use Rattle.rep_model.specs.declared.machine.Machine.{Machine}
 use Rattle.rep_model.specs.declared.machine.Side.{Side}
 use Rattle.rep_model.specs.declared.machine.Hosted.{Hosted}
@@ -31,24 +33,25 @@ with-with C s t m = refl
 abbrev Retired : ℕ → Hosted → Hosted
 Retired n h = moved place.Gone (record h { flushed = n })
 
-pub split-done : (c : Cluster) (r : ℕ) (key : List ℕ) (m : Machine) (side : Side) (regions : List Hosted) (h lower higher : Hosted) (low high : ℕ) →
+pub split-done : (c : Cluster) (r : ℕ) (key : List ℕ) (m : Machine) (side : Side) (regions : List Hosted) (h lower higher : Hosted) (low high : ℕ) (said : Reply) →
     find (is_region r) (of c m).regions ≡ Some h →
     h.region.number ≡ r →
     not (is_off h.place) ≡ false →
     not (is_closed c r m) ≡ false →
     not (splits key h.region) ≡ false →
     nat_lt 4096 (length (of c m).regions + 2) ≡ false →
+    fault_among (run_sites c (site c call.Put ∷ [])) said ≡ None →
     low ≡ length (of c m).regions + 1 →
     high ≡ length (of c m).regions + 2 →
     lower ≡ hosted (record { number = low; table = h.region.table; low = h.region.low; high = Some key; parents = h.region.number ∷ []; generation = h.region.generation + 1 }) →
     higher ≡ hosted (record { number = high; table = h.region.table; low = Some key; high = h.region.high; parents = h.region.number ∷ []; generation = h.region.generation + 1 }) →
     side ≡ of c m →
     regions ≡ (replace (is_region r) (moved place.Gone (record h { flushed = commit_count r (of c m).commits })) (of c m).regions ++ lower ∷ []) ++ higher ∷ [] →
-    answers (reply.Split low high) (with c (record side { regions = regions }) m) ≡ split_row c r key (reply.Split low high) m
+    answers (reply.Split low high) (with c (record side { regions = regions }) m) ≡ split_row c r key said m
 unfolding split_row given
-split-done c r key m side regions h lower higher low high found rn off closed fits few lows highs lowers highers same left =
+split-done c r key m side regions h lower higher low high said found rn off closed fits few done lows highs lowers highers same left =
     let two : length (of c m).regions + 2 ≡ length (of c m).regions + 1 + 1 = omega arith in
-    rw (found, off, closed, fits, few) (rw (left, lowers, highers, lows, highs, two, same, rn) (rw (of-with, with-with) (rw append_assoc refl)))
+    rw (found, off, closed, fits, few, done) (rw (left, lowers, highers, lows, highs, two, same, rn) (rw (of-with, with-with) (rw append_assoc refl)))
 
 -- what is looked for after another item gave way
 find-other : {X : Type 0} (p q : X → Bool) (y : X) (xs : List X) → ((x : X) → q x ≡ true → p x ≡ false) → p y ≡ false → find p (replace q y xs) ≡ find p xs
@@ -92,7 +95,7 @@ second-retires r s k n g h before one two found there rn is retired =
           rw same at retired
     ]) refl
 
-pub merge-done : (c : Cluster) (r s : ℕ) (m : Machine) (side : Side) (one two regions : List Hosted) (g h whole : Hosted) (number : ℕ) →
+pub merge-done : (c : Cluster) (r s : ℕ) (m : Machine) (side : Side) (one two regions : List Hosted) (g h whole : Hosted) (number : ℕ) (said : Reply) →
     find (is_region r) (of c m).regions ≡ Some g →
     find (is_region s) (of c m).regions ≡ Some h →
     g.region.number ≡ r →
@@ -103,14 +106,15 @@ pub merge-done : (c : Cluster) (r s : ℕ) (m : Machine) (side : Side) (one two 
     not (is_closed c s m) ≡ false →
     not (is_adjacent g.region h.region) ≡ false →
     nat_lt 4096 (length (of c m).regions + 1) ≡ false →
+    fault_among (run_sites c (site c call.Put ∷ [])) said ≡ None →
     number ≡ length (of c m).regions + 1 →
     whole ≡ hosted (record { number = number; table = g.region.table; low = g.region.low; high = h.region.high; parents = g.region.number ∷ h.region.number ∷ []; generation = max g.region.generation h.region.generation + 1 }) →
     side ≡ of c m →
     one ≡ replace (is_region r) (Retired (commit_count r (of c m).commits) g) (of c m).regions →
     IfSome (find (is_region s) one) (λ x. two ≡ replace (is_region s) (moved place.Gone (record x { flushed = commit_count s (of c m).commits })) one) →
     regions ≡ two ++ whole ∷ [] →
-    answers (reply.Made number) (with c (record side { regions = regions }) m) ≡ merge_row c r s (reply.Made number) m
+    answers (reply.Made number) (with c (record side { regions = regions }) m) ≡ merge_row c r s said m
 unfolding merge_row given
-merge-done c r s m side one two regions g h whole number found there rn sn off off_too closed closed_too adjacent few numbered joins same is retired left =
+merge-done c r s m side one two regions g h whole number said found there rn sn off off_too closed closed_too adjacent few done numbered joins same is retired left =
     let last = second-retires r s (commit_count r (of c m).commits) (commit_count s (of c m).commits) g h (of c m).regions one two found there rn is retired in
-    rw (found, there, off, off_too, closed, closed_too, adjacent, few) (rw (left, last, is, joins, numbered, same, rn, sn) (simp (of-with, with-with) refl))
+    rw (found, there, off, off_too, closed, closed_too, adjacent, few, done) (rw (left, last, is, joins, numbered, same, rn, sn) (simp (of-with, with-with) refl))

@@ -167,13 +167,13 @@ copy_broken k = record k { whole = false }
 abbrev with_remote : Cluster → RemoteCopy → Machine → Machine
 with_remote c k m = let link = (of (other c) m).link in with_link (other c) (record link { copies = with_copy k link.copies }) m
 
-abbrev is_nothing : List Commit → Bool
+abbrev pub is_nothing : List Commit → Bool
 is_nothing [] = true
 is_nothing (x ∷ xs) = false
 
 -- an append where something is new, and a sync, in the other cluster's store
-abbrev mirror_sites : Cluster → RemoteCopy → Machine → List Site
-mirror_sites c k m = if is_nothing (unoffered k (of c m).commits) then site (other c) call.Sync ∷ [] else site (other c) call.Append ∷ site (other c) call.Sync ∷ []
+abbrev pub mirror_sites : Cluster → RemoteCopy → List Commit → List Site
+mirror_sites c k commits = if is_nothing (unoffered k commits) then site (other c) call.Sync ∷ [] else site (other c) call.Append ∷ site (other c) call.Sync ∷ []
 
 abbrev in_log : ℕ → ℕ → ℕ → ℕ → Bool
 in_log s l t k = (t == s) && (k == l)
@@ -188,7 +188,7 @@ abbrev mirror_copy : Cluster → ℕ → Reply → RemoteCopy → Machine → Ro
 mirror_copy c s said k m =
     or_fault (fault_among (site c call.Read ∷ []) said) said (λ _. m) (
     unless (first ((not (is_standing (of (other c) m).link.folder k), refusal.Fenced) ∷ [])) m (
-    or_fault (fault_among (mirror_sites c k m) said) said (λ _. with_remote c (copy_broken (offered (of c m).commits k)) m) (
+    or_fault (fault_among (mirror_sites c k (of c m).commits) said) said (λ _. with_remote c (copy_broken (offered (of c m).commits k)) m) (
     let after = mirrored c s k m in answers (reply.Mirrored (acks m after)) after)))
 
 unfoldable pub mirror_row : Cluster → ℕ → Reply → Machine → Row
@@ -209,11 +209,11 @@ abbrev is_in_use : Cluster → ℕ → Machine → RemoteCopy → Bool
 is_in_use c s m k = if_some (server_of c s m) (λ srv. (srv.log == k.log) && not srv.sealed)
 
 -- a commit of the log stands before the peer's present start or isn't recorded
-abbrev peer_needs_copy : List Commit → RemoteCopy → Peer → Bool
+abbrev pub peer_needs_copy : List Commit → RemoteCopy → Peer → Bool
 peer_needs_copy commits k p = nat_lt (length (log_commits k.server k.log (drop p.start commits))) (length (log_commits k.server k.log commits))
     || list_any (λ x. not (stands_in p.recorded x)) (log_commits k.server k.log commits)
 
-abbrev copy_needer : List Commit → RemoteCopy → List Peer → Option ℕ
+abbrev pub copy_needer : List Commit → RemoteCopy → List Peer → Option ℕ
 copy_needer commits k [] = None
 copy_needer commits k (p ∷ ps) = if is_synchronous p.kind && peer_needs_copy commits k p then Some p.number else copy_needer commits k ps
 
@@ -283,12 +283,12 @@ least n None = Some n
 least n (Some k) = Some (min n k)
 
 -- the lowest server that passes the test
-abbrev lowest_server : (Server → Bool) → List Server → Option ℕ
+abbrev pub lowest_server : (Server → Bool) → List Server → Option ℕ
 lowest_server test [] = None
 lowest_server test (s ∷ ss) = if test s then least s.number (lowest_server test ss) else lowest_server test ss
 
 -- a live server whose current log is of the other kind than the target needs
-abbrev has_other_kind : SyncState → Server → Bool
+abbrev pub has_other_kind : SyncState → Server → Bool
 has_other_kind to srv = srv.live && (if is_active to then not srv.dual else srv.dual)
 
 abbrev or_else : Option ℕ → Option ℕ → Option ℕ
@@ -304,10 +304,10 @@ abbrev all_logs : ℕ → ℕ → Bool
 all_logs s l = true
 
 -- the synchronous peer starts again behind the present commits, with the queues that a new peer would get
-abbrev restarted : ℕ → Peer → Peer
+abbrev pub restarted : ℕ → Peer → Peer
 restarted start x = if is_synchronous x.kind then record x { start = start; serial_start = start } else x
 
-abbrev restart_queues : List Server → List Peer → List Queue → List Queue
+abbrev pub restart_queues : List Server → List Peer → List Queue → List Queue
 restart_queues servers [] qs = qs
 restart_queues servers (p ∷ ps) qs =
     if is_synchronous p.kind then restart_queues servers ps (other_queues p.number qs ++ new_queues p.number servers) else restart_queues servers ps qs
@@ -333,7 +333,7 @@ transit_end_row c said m =
 
 -- makefolder
 
-abbrev lacks_folder : Phase → Bool
+abbrev pub lacks_folder : Phase → Bool
 lacks_folder phase.Idle = false
 lacks_folder (phase.To to) = false
 lacks_folder phase.NoFolder = true

@@ -29,6 +29,7 @@ use Rattle.rep_model.specs.declared.machine.Side.{Side}
 use Rattle.rep_model.specs.declared.machine.Table.{Table}
 use Rattle.rep_model.specs.declared.machine.Region.{Region}
 use Rattle.rep_model.specs.declared.machine.Hosted.{Hosted}
+use Rattle.rep_model.specs.declared.machine.Pending.{Pending}
 use Rattle.rep_model.specs.declared.machine.Server.{Server}
 
 -- table
@@ -118,10 +119,6 @@ marker_refusals at c r m =
     ∷ (if_some there (λ x. lacks_room c x.server 32 m), given there refusal.Fenced (λ x. refusal.NeedRoll x.server.number (capped (used c x.server m)) 32))
     ∷ [])
 
--- the marker is committed behind what is pending
-abbrev marked : Cluster → Marking → EntryKind → Machine → Machine
-marked c x k m = synced_with c x.server (own_pending c x.hosted.region k None ∷ []) m
-
 -- the region moves, and the marker is committed
 abbrev pub marked_at : Cluster → Marking → EntryKind → PlaceOf → Machine → Machine
 marked_at c x k place m =
@@ -136,15 +133,15 @@ abbrev marker_reply : Cluster → Marking → Machine → Machine → Reply
 marker_reply c x m after = reply.Marked (next_id c (record { server = x.server; region = x.hosted.region }) m) (acks m after)
 
 -- a failed append or sync breaks the log and leaves the marker pending; behind a failed put it is committed, and the place stays
-abbrev marker_failed : Cluster → Marking → EntryKind → Call → Machine → Machine
-marker_failed c x k call.Put m = marked c x k m
-marker_failed c x k _ m = broken_by c x.server (own_pending c x.hosted.region k None) m
+abbrev pub marker_left : Cluster → Server → Pending → Call → Machine → Machine
+marker_left c srv p call.Put m = synced_with c srv (p ∷ []) m
+marker_left c srv p _ m = broken_by c srv p m
 
 abbrev marker_row : (PlaceOf → Option ℕ) → (ℕ → PlaceOf) → EntryKind → List Site → Cluster → ℕ → Reply → Machine → Row
 marker_row at place k rest c r said m =
     let there = marking at c r m in
     unless (first (marker_refusals at c r m)) m (
-    or_fault (fault_among (site c call.Append ∷ site c call.Sync ∷ rest) said) said (λ failed. given there m (λ x. marker_failed c x k failed.call m)) (
+    or_fault (fault_among (site c call.Append ∷ site c call.Sync ∷ rest) said) said (λ failed. given there m (λ x. marker_left c x.server (own_pending c x.hosted.region k None) failed.call m)) (
     given there (answers reply.Done m) (λ x. let after = marked_at c x k (place x.server.number) m in answers (marker_reply c x m after) after)))
 
 unfoldable pub open_end_row : Cluster → ℕ → Reply → Machine → Row

@@ -1,20 +1,23 @@
 // The rows of regions that close.
-ghost use Rattle.std.specs.Prelude.{◌≡◌, ◌+◌, ◌^◌, ◌<◌, ◌≤◌, IfOk, length};
+ghost use Rattle.std.specs.Prelude.{◌≡◌, ◌+◌, ◌^◌, ◌<◌, ◌≤◌, IfOk, length, true, [], ◌∷◌, None, OnOk, IfSome};
 ghost use Rattle.rep_model.specs.Built.{size};
+ghost use Rattle.rep_model.specs.Calm.{is_calm};
 ghost use Rattle.rep_model.specs.Places.{closes_at};
-ghost use Rattle.rep_model.specs.RegionEvents.{close_begin_row, close_end_row};
-ghost use Rattle.rep_model.specs.Row.{answers};
-ghost use Rattle.rep_model.specs.Runs.{Tells, no_faults};
+ghost use Rattle.rep_model.specs.RegionEvents.{close_begin_row, close_end_row, marker_left};
+ghost use Rattle.rep_model.specs.Row.{answers, fault_among, site};
+ghost use Rattle.rep_types.specs.declared.state.Call.TheVariants as Call;
+ghost use Rattle.rep_model.specs.State.{server_of};
 
-use crate::change::{set_place, take_pending};
+use crate::change::{append_pending, set_place, take_pending};
+use crate::faults::{call_of, fault_among};
 use crate::lookup::{find_region, find_server};
 use crate::places::on_at;
 use crate::settle::{commit_count, pending_count};
 use crate::side::mark;
 use crate::tickets::newly_acknowledged;
-use crate::{Machine, Pending};
+use crate::{Machine, Pending, Site};
 use rep_types::{
-    Cluster, Duplicate, EntryKind, Items, Memory, PlaceOf, Refusal, RegionId, Reply, ServerId,
+    Call, Cluster, Duplicate, EntryKind, Items, Memory, PlaceOf, Refusal, RegionId, Reply, ServerId,
 };
 use std::alloc::Global;
 
@@ -27,16 +30,56 @@ fn closes_at(place: &PlaceOf) -> Option<ServerId>
     }
 }
 
+// The call of a closing that failed.
+fn close_fault(cluster: Cluster, said: &Reply) -> Option<Site>
+    ensures sites { result ≡ fault_among (site cluster Call.Append ∷ site cluster Call.Sync ∷ site cluster Call.Put ∷ []) said.now }
+    ensures calm { is_calm said.now ≡ true → result ≡ None }
+{
+    let sites = [
+        call_of(cluster, Call::Append),
+        call_of(cluster, Call::Sync),
+        call_of(cluster, Call::Put),
+    ];
+    fault_among(&sites, said)
+}
+
 impl Machine {
+    // Behind a failed put the marker is committed; else the log is broken, and it is pending.
+    fn leave_marker(
+        &mut self,
+        alloc: Global,
+        cluster: Cluster,
+        server: ServerId,
+        log: u32,
+        marker: Pending,
+        failed: Call,
+    ) -> Result<(), Memory>
+        ensures left { OnOk result (IfSome (server_of cluster server self.old) (λ x. x.log ≡ log → x.number ≡ server → self.new ≡ marker_left cluster x marker failed self.old)) }
+        ensures flights { self.new.flights ≡ self.old.flights }
+        ensures tickets { length self.new.tickets ≡ length self.old.tickets }
+    {
+        let servers = &mut self.side_mut(cluster).servers;
+        match failed {
+            Call::Put => {
+                let mut pending = take_pending(alloc, servers, server);
+                pending.push(marker)?;
+                self.settle(alloc, cluster, server, log, pending)
+            }
+            _ => append_pending(servers, server, marker, false),
+        }
+    }
+
     /// A region that is On begins to close.
-    #[tactic(auto, unfolding(crate::specs::RegionEvents::close_begin_row, crate::specs::Keyed::given))]
+    #[tactic(auto, using(crate::proofs::Calm::no_sites), unfolding(crate::specs::RegionEvents::close_begin_row, crate::specs::Keyed::given))]
     pub(crate) fn close_begin(
         &mut self,
+        alloc: Global,
         cluster: Cluster,
         region: RegionId,
+        said: &Reply,
     ) -> Result<Reply, Memory>
-        ensures row { IfOk result (λ reply. answers reply self.new ≡ close_begin_row cluster region reply self.old) }
-        ensures no_fault { IfOk result (λ reply. Tells reply no_faults no_faults) }
+        ensures row { IfOk result (λ reply. answers reply self.new ≡ close_begin_row cluster region said.now self.old) }
+        ensures calm { is_calm said.now ≡ true → IfOk result (λ reply. is_calm reply ≡ true) }
         ensures grows { IfOk result (λ _. size self.new ≤ size self.old + 1) }
     {
         let Some(hosted) = find_region(&self.side(cluster).regions, region) else {
@@ -61,10 +104,11 @@ impl Machine {
         alloc: Global,
         cluster: Cluster,
         region: RegionId,
+        said: &Reply,
     ) -> Result<Reply, Memory>
         requires room { length self.old.tickets < 2 ^ 32 }
-        ensures row { IfOk result (λ reply. answers reply self.new ≡ close_end_row cluster region reply self.old) }
-        ensures no_fault { IfOk result (λ reply. Tells reply no_faults no_faults) }
+        ensures row { IfOk result (λ reply. answers reply self.new ≡ close_end_row cluster region said.now self.old) }
+        ensures calm { is_calm said.now ≡ true → IfOk result (λ reply. is_calm reply ≡ true) }
         ensures grows { IfOk result (λ _. size self.new ≤ size self.old + 1) }
     {
         let side = self.side(cluster);
@@ -98,6 +142,10 @@ impl Machine {
             origin: None,
             ticket: None,
         };
+        if let Some(failed) = close_fault(cluster, said) {
+            self.leave_marker(alloc, cluster, server, log, marker, failed.call)?;
+            return said.copy(alloc);
+        }
         let told = Items::from_slice(alloc, self.tickets.as_slice())?;
         let side = self.side_mut(cluster);
         set_place(&mut side.regions, region, PlaceOf::Off);

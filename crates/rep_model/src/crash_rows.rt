@@ -1,21 +1,23 @@
 // The rows of servers that die, and of their logs that are sealed.
 ghost use Rattle.std.specs.Prelude.{◌≡◌, ◌+◌, ◌==◌, [], ◌∷◌, ◌^◌, ◌<◌, ◌≤◌, false, true, find, map, IfOk, IfSome, length};
 ghost use Rattle.rep_model.specs.Built.{size};
+ghost use Rattle.rep_model.specs.Calm.{is_calm};
 ghost use Rattle.rep_model.specs.Keyed.{replace};
 ghost use Rattle.rep_model.specs.LogEvents.{crash_row, seal_row};
 ghost use Rattle.rep_model.specs.Places.{after_death};
 ghost use Rattle.rep_model.specs.RegionEvents.{moved};
 ghost use Rattle.rep_model.specs.Row.{answers};
-ghost use Rattle.rep_model.specs.Runs.{Tells, no_faults};
 ghost use Rattle.rep_model.specs.State.{is_server, server_of, of, with};
 ghost use Rattle.rep_model.specs.Tickets.{doubt_pending, tell_waiting};
 ghost use Rattle.rep_model.specs.declared.machine.Told.TheVariants as told;
 
 use crate::doubt::{doubt_pending, doubt_waiting, newly_doubtful};
+use crate::faults::{call_of, fault_among, kept_of};
 use crate::lookup::{find_server, server_place};
-use crate::{Hosted, Machine, Server, Side, Ticket};
-use rep_types::{Cluster, Items, Memory, PlaceOf, Refusal, Reply, ServerId};
+use crate::{Hosted, Machine, Pending, Server, Side, Ticket};
+use rep_types::{Call, Cluster, Duplicate, Items, Memory, PlaceOf, Refusal, Reply, ServerId};
 use std::alloc::Global;
+use std::mem;
 
 // Where a region is once the server has died.
 fn after_death(server: ServerId, place: &PlaceOf) -> PlaceOf
@@ -73,7 +75,7 @@ impl Side {
 
 impl Machine {
     // The server dies, with what is lost by it.
-    fn lose(&mut self, cluster: Cluster, server: ServerId)
+    fn lose_server(&mut self, cluster: Cluster, server: ServerId)
         ensures lost { IfSome (server_of cluster server self.old) (λ x. self.new ≡
             record (with cluster (record (of cluster self.old) {
               servers = replace (is_server server) (record x { live = false }) (of cluster self.old).servers;
@@ -90,16 +92,17 @@ impl Machine {
     }
 
     /// A server dies: its regions are Lost, and what it hadn't acknowledged is doubtful.
-    #[tactic(auto, unfolding(crate::specs::LogEvents::crash_row, crate::specs::Keyed::given))]
+    #[tactic(auto, using(crate::proofs::Calm::no_sites), unfolding(crate::specs::LogEvents::crash_row, crate::specs::Keyed::given))]
     pub(crate) fn crash(
         &mut self,
         alloc: Global,
         cluster: Cluster,
         server: ServerId,
+        said: &Reply,
     ) -> Result<Reply, Memory>
         requires room { length self.old.tickets < 2 ^ 32 }
-        ensures row { IfOk result (λ reply. answers reply self.new ≡ crash_row cluster server reply self.old) }
-        ensures no_fault { IfOk result (λ reply. Tells reply no_faults no_faults) }
+        ensures row { IfOk result (λ reply. answers reply self.new ≡ crash_row cluster server said.now self.old) }
+        ensures calm { is_calm said.now ≡ true → IfOk result (λ reply. is_calm reply ≡ true) }
         ensures grows { IfOk result (λ _. size self.new ≤ size self.old + 1) }
     {
         let Some(host) = find_server(&self.side(cluster).servers, server) else {
@@ -109,35 +112,38 @@ impl Machine {
             return Ok(Reply::Refused(Refusal::Dead { server }));
         }
         let before = Items::from_slice(alloc, self.tickets.as_slice())?;
-        self.lose(cluster, server);
+        self.lose_server(cluster, server);
         let doubtful = newly_doubtful(alloc, before.as_slice(), self.tickets.as_slice())?;
         Ok(Reply::Crashed { doubtful })
     }
 }
 
-// The server's log is sealed, and nothing is pending.
-fn seal_server(alloc: Global, servers: &mut Items<Server>, number: ServerId)
-    ensures { IfSome (find (is_server number) servers.old) (λ x.
+// The server's pending list; its log is sealed, and nothing is pending from now on.
+fn seal_server(alloc: Global, servers: &mut Items<Server>, number: ServerId) -> Items<Pending>
+    ensures list { IfSome (find (is_server number) servers.old) (λ x. result ≡ x.pending) }
+    ensures sealed { IfSome (find (is_server number) servers.old) (λ x.
         servers.new ≡ replace (is_server number) (record x { sealed = true; pending = [] }) servers.old) }
 {
-    if let Some(at) = server_place(servers, number) {
-        let server = servers.at_mut(at);
-        server.sealed = true;
-        server.pending = Items::new(alloc);
-    }
+    let Some(at) = server_place(servers, number) else {
+        return Items::new(alloc);
+    };
+    let server = servers.at_mut(at);
+    server.sealed = true;
+    mem::replace(&mut server.pending, Items::new(alloc))
 }
 
 impl Machine {
-    /// A dead server's log is sealed. The store keeps nothing that wasn't synced.
+    /// A dead server's log is sealed, with as many pending entries as it kept.
     #[tactic(auto, unfolding(crate::specs::LogEvents::seal_row, crate::specs::Keyed::given))]
     pub(crate) fn seal(
         &mut self,
         alloc: Global,
         cluster: Cluster,
         server: ServerId,
+        said: &Reply,
     ) -> Result<Reply, Memory>
-        ensures row { IfOk result (λ reply. answers reply self.new ≡ seal_row cluster server reply self.old) }
-        ensures no_fault { IfOk result (λ reply. Tells reply no_faults no_faults) }
+        ensures row { IfOk result (λ reply. answers reply self.new ≡ seal_row cluster server said.now self.old) }
+        ensures calm { is_calm said.now ≡ true → IfOk result (λ reply. is_calm reply ≡ true) }
         ensures grows { IfOk result (λ _. size self.new ≤ size self.old + 1) }
     {
         let Some(host) = find_server(&self.side(cluster).servers, server) else {
@@ -149,11 +155,18 @@ impl Machine {
         if host.sealed {
             return Ok(Reply::Refused(Refusal::Sealed));
         }
-        let dropped = host.pending.len() as u64;
-        seal_server(alloc, &mut self.side_mut(cluster).servers, server);
+        if fault_among(&[call_of(cluster, Call::Seal)], said).is_some() {
+            return said.copy(alloc);
+        }
+        let log = host.log;
+        let mut pending = seal_server(alloc, &mut self.side_mut(cluster).servers, server);
+        let count = pending.len();
+        let commits = kept_of(said).min(count as u64);
+        pending.truncate(commits as usize);
+        self.settle(alloc, cluster, server, log, pending)?;
         Ok(Reply::Sealed {
-            commits: 0,
-            dropped,
+            commits,
+            dropped: count as u64 - commits,
         })
     }
 }

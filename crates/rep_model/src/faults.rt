@@ -1,9 +1,11 @@
 // The calls of stores that a record tells to have failed.
-ghost use Rattle.std.specs.Prelude.{◌≡◌, None, true};
+ghost use Rattle.std.specs.Prelude.{◌≡◌, [], ◌∷◌, None, true};
+ghost use Rattle.rep_model.specs.LogEvents.{kept_of};
+ghost use Rattle.rep_types.specs.declared.state.Call.TheVariants as Call;
 ghost use Rattle.std.specs.List.{list_any};
 ghost use Rattle.rep_model.specs.Calm.{is_calm};
 ghost use Rattle.rep_model.specs.QueueEvents.{failing, failing_by, fails_at};
-ghost use Rattle.rep_model.specs.Row.{call_number, fault_among, is_site, site};
+ghost use Rattle.rep_model.specs.Row.{call_number, fault_among, is_site, run_sites, site};
 
 use crate::side::mark;
 use rep_types::{Call, Cause, Cluster, Reply};
@@ -119,5 +121,46 @@ pub fn fails_at(failing: &Option<Failing>, index: u64) -> Option<Cause>
             }
         }
         None => None,
+    }
+}
+
+/// The call that failed of those that write a region's run.
+pub fn run_fault(cluster: Cluster, said: &Reply) -> Option<Site>
+    ensures sites { result ≡ fault_among (run_sites cluster (site cluster Call.Put ∷ [])) said.now }
+    ensures calm { is_calm said.now ≡ true → result ≡ None }
+{
+    let sites = [
+        call_of(cluster, Call::Create),
+        call_of(cluster, Call::Append),
+        call_of(cluster, Call::Sync),
+        call_of(cluster, Call::Put),
+    ];
+    fault_among(&sites, said)
+}
+
+/// The call that failed of those that read a region's files and write a run.
+pub fn rewrite_fault(cluster: Cluster, said: &Reply) -> Option<Site>
+    ensures sites { result ≡ fault_among (site cluster Call.Read ∷ run_sites cluster (site cluster Call.Put ∷ [])) said.now }
+    ensures calm { is_calm said.now ≡ true → result ≡ None }
+{
+    let sites = [
+        call_of(cluster, Call::Read),
+        call_of(cluster, Call::Create),
+        call_of(cluster, Call::Append),
+        call_of(cluster, Call::Sync),
+        call_of(cluster, Call::Put),
+    ];
+    fault_among(&sites, said)
+}
+
+/// How many entries a store kept, by the reply of a roll, a seal or a replay.
+pub fn kept_of(said: &Reply) -> u64
+    ensures { result ≡ kept_of said.now }
+{
+    match said {
+        Reply::Rolled { commits, .. } => *commits,
+        Reply::Sealed { commits, .. } => *commits,
+        Reply::Replayed { entries, .. } => *entries,
+        _ => 0,
     }
 }

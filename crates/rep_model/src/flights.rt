@@ -60,7 +60,7 @@ pub fn is_live(servers: &Items<Server>, number: ServerId) -> bool
 }
 
 /// Whether this flight is the outstanding one.
-fn is_out(outstanding: Option<u32>, flight: u32) -> bool
+pub fn is_out(outstanding: Option<u32>, flight: u32) -> bool
     ensures { result ≡ is_out flight outstanding }
 {
     match outstanding {
@@ -159,8 +159,14 @@ impl Machine {
         }
     }
 
-    // The flight of the queue is outstanding, or none.
-    fn fly(&mut self, cluster: Cluster, peer: PeerId, server: ServerId, flight: Option<u32>)
+    /// The flight of the queue is outstanding, or none.
+    pub(crate) fn fly(
+        &mut self,
+        cluster: Cluster,
+        peer: PeerId,
+        server: ServerId,
+        flight: Option<u32>,
+    )
         ensures queue { self.new ≡ flown cluster peer server flight self.old }
         ensures flights { self.new.flights ≡ self.old.flights }
         ensures tickets { self.new.tickets ≡ self.old.tickets }

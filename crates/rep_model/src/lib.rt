@@ -3,12 +3,14 @@
 #![tactic(auto)]
 
 mod change;
+mod change_rows;
+mod claim_rows;
 mod close_rows;
 mod copies;
 mod crash_rows;
 mod deliver_row;
-mod faults;
 mod doubt;
+mod faults;
 mod flights;
 mod flush_rows;
 mod forms;
@@ -16,12 +18,16 @@ mod frames;
 mod log_rows;
 mod lookup;
 mod machine;
+mod mirror_rows;
 mod peer_row;
 mod places;
+mod promotion_rows;
 mod put_row;
 mod queues;
 mod read_rows;
 mod region_rows;
+mod remote;
+mod restart;
 mod roll_row;
 mod room;
 mod settle;
@@ -30,7 +36,9 @@ mod split_rows;
 mod step;
 mod sweep_row;
 mod tickets;
+mod transit_rows;
 mod views;
+mod waiting;
 
 pub use faults::{Failing, Site};
 pub use machine::{

@@ -143,7 +143,7 @@ impl Machine {
     }
 
     // A failure behind the creation of a remote copy leaves the copy.
-    fn left_copy(
+    pub(crate) fn left_copy(
         &mut self,
         alloc: Global,
         failed: Call,

@@ -88,7 +88,8 @@ impl Side {
     }
 }
 
-fn add_queues(
+/// A queue of the peer for each server that lives or isn't sealed.
+pub fn add_queues(
     queues: &mut Items<Queue>,
     peer: PeerId,
     servers: &Items<Server>,

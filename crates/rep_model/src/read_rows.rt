@@ -13,16 +13,17 @@ use std::alloc::Global;
 
 impl Machine {
     /// The row's cells, where a server serves it.
-    #[tactic(auto, unfolding(crate::specs::Reads::get_row, crate::specs::Keyed::given))]
+    #[tactic(auto, using(crate::proofs::Calm::no_sites), unfolding(crate::specs::Reads::get_row, crate::specs::Keyed::given))]
     pub(crate) fn get(
         &self,
         alloc: Global,
         cluster: Cluster,
         table: &Name,
         row: &Key,
+        said: &Reply,
     ) -> Result<Reply, Memory>
-        ensures row { IfOk result (λ reply. answers reply self.now ≡ get_row cluster table.now row.now reply self.now) }
-        ensures no_fault { IfOk result (λ reply. Tells reply no_faults no_faults) }
+        ensures row { IfOk result (λ reply. answers reply self.now ≡ get_row cluster table.now row.now said.now self.now) }
+        ensures calm { is_calm said.now ≡ true → IfOk result (λ reply. is_calm reply ≡ true) }
     {
         let side = self.side(cluster);
         if find_table(&side.tables, table).is_none() {

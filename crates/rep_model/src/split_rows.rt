@@ -1,20 +1,21 @@
 // The rows of regions that split and merge.
-ghost use Rattle.std.specs.Prelude.{◌≡◌, ◌+◌, ◌-◌, [], ◌∷◌, ◌^◌, ◌<◌, ◌≤◌, false, max, IfOk};
+ghost use Rattle.std.specs.Prelude.{◌≡◌, ◌+◌, ◌-◌, [], ◌∷◌, ◌^◌, ◌<◌, ◌≤◌, false, max, IfOk, true};
 ghost use Rattle.rep_model.specs.Built.{size};
+ghost use Rattle.rep_model.specs.Calm.{is_calm};
 ghost use Rattle.rep_model.specs.Places.{closes_last};
 ghost use Rattle.rep_model.specs.RegionEvents.{hosted, splits, split_row, merge_row};
 ghost use Rattle.rep_model.specs.Regions.{is_adjacent, same_key};
 ghost use Rattle.rep_model.specs.Row.{answers};
-ghost use Rattle.rep_model.specs.Runs.{Tells, no_faults};
 
 use crate::copies::copy_bound;
+use crate::faults::run_fault;
 use crate::flush_rows::flush_region;
 use crate::lookup::find_region;
 use crate::places::{is_below, is_off};
 use crate::settle::commit_count;
 use crate::{Commit, Hosted, Machine, Region};
 use rep_types::{
-    Cluster, Duplicate, EntryKind, Items, Key, Memory, PlaceOf, Refusal, RegionId, Reply,
+    Call, Cluster, Duplicate, EntryKind, Items, Key, Memory, PlaceOf, Refusal, RegionId, Reply,
 };
 use std::alloc::Global;
 
@@ -147,9 +148,10 @@ impl Machine {
         cluster: Cluster,
         region: RegionId,
         key: &Key,
+        said: &Reply,
     ) -> Result<Reply, Memory>
-        ensures row { IfOk result (λ reply. answers reply self.new ≡ split_row cluster region key.now reply self.old) }
-        ensures no_fault { IfOk result (λ reply. Tells reply no_faults no_faults) }
+        ensures row { IfOk result (λ reply. answers reply self.new ≡ split_row cluster region key.now said.now self.old) }
+        ensures calm { is_calm said.now ≡ true → IfOk result (λ reply. is_calm reply ≡ true) }
         ensures grows { IfOk result (λ _. size self.new ≤ size self.old + 1) }
     {
         let side = self.side(cluster);
@@ -177,6 +179,9 @@ impl Machine {
         let Some(high) = RegionId::new(count as u32 + 2) else {
             return Ok(Reply::Refused(Refusal::TooMany));
         };
+        if run_fault(cluster, said).is_some() {
+            return said.copy(alloc);
+        }
         let from = copy_bound(alloc, &parent.low)?;
         let to = copy_bound(alloc, &parent.high)?;
         let lower = daughter(alloc, low, parent, from, Some(key.copy(alloc)?))?;
@@ -197,9 +202,10 @@ impl Machine {
         cluster: Cluster,
         low: RegionId,
         high: RegionId,
+        said: &Reply,
     ) -> Result<Reply, Memory>
-        ensures row { IfOk result (λ reply. answers reply self.new ≡ merge_row cluster low high reply self.old) }
-        ensures no_fault { IfOk result (λ reply. Tells reply no_faults no_faults) }
+        ensures row { IfOk result (λ reply. answers reply self.new ≡ merge_row cluster low high said.now self.old) }
+        ensures calm { is_calm said.now ≡ true → IfOk result (λ reply. is_calm reply ≡ true) }
         ensures grows { IfOk result (λ _. size self.new ≤ size self.old + 1) }
     {
         let side = self.side(cluster);
@@ -229,6 +235,9 @@ impl Machine {
         let Some(number) = RegionId::new(count as u32 + 1) else {
             return Ok(Reply::Refused(Refusal::TooMany));
         };
+        if run_fault(cluster, said).is_some() {
+            return said.copy(alloc);
+        }
         let whole = join(alloc, number, &lower.region, &upper.region)?;
         let low_flushed = commit_count(&side.commits, low) as u64;
         let high_flushed = commit_count(&side.commits, high) as u64;

@@ -1,20 +1,24 @@
 // The row that sweeps a server's lowest log, and who needs a log.
-ghost use Rattle.std.specs.Prelude.{◌≡◌, ◌+◌, ◌-◌, ◌==◌, ◌&&◌, ◌^◌, ◌<◌, ◌≤◌, not, nat_lt, drop, find, min, MatchOption, IfOk, IfSome};
+ghost use Rattle.std.specs.Prelude.{◌≡◌, ◌+◌, ◌-◌, ◌==◌, ◌&&◌, ◌^◌, ◌<◌, ◌≤◌, not, nat_lt, drop, find, min, MatchOption, IfOk, IfSome, true};
 ghost use Rattle.std.specs.List.{list_any};
 ghost use Rattle.rep_model.specs.Built.{size};
+ghost use Rattle.rep_model.specs.Calm.{is_calm};
 ghost use Rattle.rep_model.specs.Commits.{log_commits, stands_in};
 ghost use Rattle.rep_model.specs.Keyed.{if_some, replace};
 ghost use Rattle.rep_model.specs.Needs.{peer_needs, lowest_peer, lowest_region, log_needer};
 ghost use Rattle.rep_model.specs.RegionEvents.{has_no_log, sweep_row};
 ghost use Rattle.rep_model.specs.Row.{answers};
-ghost use Rattle.rep_model.specs.Runs.{Tells, no_faults};
 ghost use Rattle.rep_model.specs.State.{is_server, is_region};
 
+use crate::faults::{call_of, fault_among};
 use crate::flights::is_removed;
 use crate::lookup::{find_region, find_server, server_place};
 use crate::queues::{after, stands_in};
 use crate::{Commit, Hosted, Machine, Peer, Server, Side};
-use rep_types::{Cluster, Items, Memory, Needer, PeerId, Refusal, RegionId, Reply, ServerId};
+use rep_types::{
+    Call, Cluster, Duplicate, Items, Memory, Needer, PeerId, Refusal, RegionId, Reply, ServerId,
+};
+use std::alloc::Global;
 
 fn is_of_log(commit: &Commit, server: ServerId, log: u32) -> bool
     ensures { result ≡ ((commit.now.server == server) && (commit.now.log == log)) }
@@ -141,9 +145,15 @@ fn sweep_log(servers: &mut Items<Server>, number: ServerId, lowest: u32)
 impl Machine {
     /// The lowest log left goes, once nobody needs it.
     #[tactic(auto, unfolding(crate::specs::RegionEvents::sweep_row, crate::specs::Keyed::given))]
-    pub(crate) fn sweep(&mut self, cluster: Cluster, server: ServerId) -> Result<Reply, Memory>
-        ensures row { IfOk result (λ reply. answers reply self.new ≡ sweep_row cluster server reply self.old) }
-        ensures no_fault { IfOk result (λ reply. Tells reply no_faults no_faults) }
+    pub(crate) fn sweep(
+        &mut self,
+        alloc: Global,
+        cluster: Cluster,
+        server: ServerId,
+        said: &Reply,
+    ) -> Result<Reply, Memory>
+        ensures row { IfOk result (λ reply. answers reply self.new ≡ sweep_row cluster server said.now self.old) }
+        ensures calm { is_calm said.now ≡ true → IfOk result (λ reply. is_calm reply ≡ true) }
         ensures grows { IfOk result (λ _. size self.new ≤ size self.old + 1) }
     {
         let side = self.side(cluster);
@@ -156,6 +166,9 @@ impl Machine {
         let log = host.lowest;
         if let Some(by) = side.log_needer(server, log) {
             return Ok(Reply::Refused(Refusal::Needed { by }));
+        }
+        if fault_among(&[call_of(cluster, Call::Remove)], said).is_some() {
+            return said.copy(alloc);
         }
         let Some(next) = log.checked_add(1) else {
             return Err(Memory);

@@ -1,12 +1,19 @@
-use Rattle.std.proofs.Common.{sym, true, []}
+use Rattle.std.proofs.Common.{◌≡◌, sym, true, [], refl}
 use Rattle.rep_model.specs.State.{is_server}
 use Rattle.rep_model.specs.declared.machine.Server.{Server}
-use Rattle.rep_model.proofs.Replacing.{changed-at, IfSome-absent}
+use Rattle.rep_model.proofs.Replacing.{changed-at, IfSome-at, IfSome-absent}
 use Rattle.rep_model.proofs.crash_rows.seal_server.Goals as goal
 
-pub returns-in-Some : goal.returns-in-Some
-returns-in-Some c =
-    rw c.new.ensures (changed-at (is_server c.args.number) c.args.servers.now _ c.at_mut-server.result.now (λ (x : Server). record x { sealed = true; pending = [] }) (sym c.in-Some.ensures) c.at_mut-server.ensures.value)
+pub returns-in_default-clause-list : goal.returns-in_default-clause-list
+returns-in_default-clause-list c = IfSome-absent (is_server c.args.number) c.args.servers.now _ (sym c.in_default.ensures)
 
-pub returns-in_default : goal.returns-in_default
-returns-in_default c = IfSome-absent (is_server c.args.number) c.args.servers.now _ (sym c.in_default.ensures)
+pub returns-in_default-clause-sealed : goal.returns-in_default-clause-sealed
+returns-in_default-clause-sealed c = IfSome-absent (is_server c.args.number) c.args.servers.now _ (sym c.in_default.ensures)
+
+pub returns-clause-list : goal.returns-clause-list
+returns-clause-list c =
+    rw c.replace.ensures.value (IfSome-at (is_server c.args.number) c.args.servers.now _ c.at_mut-server.result.now (λ x. c.at_mut-server.result.now.pending ≡ x.pending) (sym c.in-Some.ensures) c.at_mut-server.ensures.value refl)
+
+pub returns-clause-sealed : goal.returns-clause-sealed
+returns-clause-sealed c =
+    rw (c.replace.ensures.after, c.new-2.ensures) (changed-at (is_server c.args.number) c.args.servers.now _ c.at_mut-server.result.now (λ (x : Server). record x { sealed = true; pending = [] }) (sym c.in-Some.ensures) c.at_mut-server.ensures.value)

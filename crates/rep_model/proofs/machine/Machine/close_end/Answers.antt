@@ -8,6 +8,8 @@ use Rattle.rep_model.specs.Places.{closes_at, lacks_room}
 use Rattle.rep_model.specs.Tickets.{acks}
 use Rattle.rep_model.specs.LogEvents.{own_pending, emptied}
 use Rattle.rep_model.specs.RegionEvents.{moved}
+use Rattle.rep_model.specs.Row.{fault_among, site}
+use Rattle.rep_types.specs.declared.state.Call.TheVariants as call
 use Rattle.rep_model.proofs.Closing.{close_end-done}
 use Rattle.rep_model.proofs.machine.Machine.close_end.Goals as goal
 
@@ -28,4 +30,5 @@ returns-clause-row c =
     let room : lacks_room k srv 32 m ≡ false = search rules in
     let left : c.settle.new.self ≡ settled k s srv.log (srv.pending ++ own_pending k h.region kind.Closed None ∷ []) (with k (record (of k m) { servers = replace (is_server s) (emptied srv) (of k m).servers; regions = replace (is_region r) (moved place.Off h) (of k m).regions }) m) = search rules in
     let told : c.in_ok-acks.acks ≡ acks m c.settle.new.self = search rules in
-    close_end-done k r s m c.settle.new.self h srv _ _ found closes there rn sn whole room (search rules) told left
+    let done : fault_among (site k call.Append ∷ site k call.Sync ∷ site k call.Put ∷ []) c.args.said.now ≡ None = search rules in
+    close_end-done k r s m c.settle.new.self h srv _ _ c.args.said.now found closes there rn sn whole room done (search rules) told left

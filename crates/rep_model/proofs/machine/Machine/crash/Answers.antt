@@ -15,10 +15,10 @@ returns-clause-row c =
     let m = c.args.self.now in
     let s = c.args.server in
     let srv = c.in-Some.host.now in
-    let after = c.lose.new.self in
+    let after = c.lose_server.new.self in
     let found : find (is_server s) (of k m).servers ≡ Some srv = search rules in
     let sn : srv.number ≡ s = c.in-Some.ensures.number in
     let lives : not srv.live ≡ false = search rules in
     let counted : c.in_ok-doubtful.doubtful ≡ doubtful m after = search rules in
-    let left : after ≡ record (with k (record (of k m) { servers = replace (is_server s) (record srv { live = false }) (of k m).servers; regions = map (λ (h : Hosted). moved (after_death s h.place) h) (of k m).regions }) m) { tickets = tell_waiting k (λ t log. t == s) (λ _. told.Doubtful) (doubt_pending srv.pending m.tickets) } = rw found at c.lose.ensures.lost in
-    crash-done k s m after srv _ found sn lives counted left
+    let left : after ≡ record (with k (record (of k m) { servers = replace (is_server s) (record srv { live = false }) (of k m).servers; regions = map (λ (h : Hosted). moved (after_death s h.place) h) (of k m).regions }) m) { tickets = tell_waiting k (λ t log. t == s) (λ _. told.Doubtful) (doubt_pending srv.pending m.tickets) } = rw found at c.lose_server.ensures.lost in
+    crash-done k s m after srv _ c.args.said.now found sn lives counted left

@@ -1,4 +1,4 @@
-use Rattle.std.proofs.Common.{◌≡◌, ◌+◌, [], ◌∷◌, ◌++◌, Some, not, nat_lt, false, find, length, max, rules, arith}
+use Rattle.std.proofs.Common.{◌≡◌, ◌+◌, [], ◌∷◌, ◌++◌, Some, None, not, nat_lt, false, find, length, max, rules, arith}
 use Rattle.std.specs.Option.{IfSome}
 use Rattle.std.proofs.lemmas.Bool.Decides.{nat_tests}
 use Rattle.rep_types.specs.declared.state.PlaceOf.TheVariants as place
@@ -9,6 +9,8 @@ use Rattle.rep_model.specs.Places.{is_off, is_closed}
 use Rattle.rep_model.specs.Regions.{is_adjacent}
 use Rattle.rep_model.specs.RegionEvents.{hosted, moved}
 use Rattle.rep_model.specs.declared.machine.Hosted.{Hosted}
+use Rattle.rep_model.specs.Row.{fault_among, run_sites, site}
+use Rattle.rep_types.specs.declared.state.Call.TheVariants as call
 use Rattle.rep_model.proofs.Retiring.{merge-done}
 use Rattle.rep_model.proofs.machine.Machine.merge.Goals as goal
 
@@ -41,4 +43,5 @@ returns-clause-row c =
     let is : one ≡ replace (is_region r) (moved place.Gone (record g { flushed = commit_count r (of k m).commits })) (of k m).regions = search rules in
     let retired : IfSome (find (is_region s) one) (λ (x : Hosted). two ≡ replace (is_region s) (moved place.Gone (record x { flushed = commit_count s (of k m).commits })) one) = search rules in
     let left : c.push.new.self ≡ two ++ whole ∷ [] = search rules in
-    merge-done k r s m c.side_mut.result.now one two c.push.new.self g h whole number found there rn sn off off_too closed closed_too adjacent few numbered joins c.side_mut.ensures.value is retired left
+    let done : fault_among (run_sites k (site k call.Put ∷ [])) c.args.said.now ≡ None = search rules in
+    merge-done k r s m c.side_mut.result.now one two c.push.new.self g h whole number c.args.said.now found there rn sn off off_too closed closed_too adjacent few done numbered joins c.side_mut.ensures.value is retired left
