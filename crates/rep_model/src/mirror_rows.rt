@@ -47,7 +47,8 @@ fn add_unoffered(
     Ok(())
 }
 
-// The copy once all commits of its log were offered to it and are confirmed.
+// The copy once all commits of its log were offered to it and are confirmed. More than 32 bits count
+// are told as no memory.
 fn mirrored(alloc: Global, copy: &RemoteCopy, commits: &[Commit]) -> Result<RemoteCopy, Memory>
     ensures { IfOk result (λ made. made ≡ record copy.now {
       offered = copy.now.offered ++ unoffered copy.now commits.now;

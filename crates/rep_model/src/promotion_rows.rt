@@ -33,7 +33,7 @@ fn is_replaying(phase: Phase) -> bool
     matches!(phase, Phase::Replaying { .. })
 }
 
-// So many are left to be replayed.
+// So many are left to be replayed. More than 32 bits count are told as no memory.
 fn replaying(left: &Items<RemoteCopy>) -> Result<Phase, Memory>
     ensures { IfOk result (λ phase. phase ≡ Phase.Replaying (length left.now)) }
 {
@@ -86,7 +86,8 @@ fn write_forms(written: &mut Items<Written>, forms: Items<Form>) -> Result<(), M
 }
 
 impl Link {
-    // No folder stands, and all copies in the renamed one are to be replayed.
+    // No folder stands, and all copies in the renamed one are to be replayed. That no number of 32
+    // bits is left for the promotion is told as no memory.
     fn promote(&mut self, alloc: Global) -> Result<(), Memory>
         ensures { OnOk result (self.new ≡ record self.old {
           phase = Phase.Replaying (length (filter (is_standing self.old.folder) self.old.copies));

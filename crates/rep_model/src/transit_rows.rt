@@ -75,7 +75,7 @@ fn lacks_folder(phase: Phase) -> bool
     matches!(phase, Phase::NoFolder)
 }
 
-// The next folder stands.
+// The next folder stands. That no number of 32 bits is left for it is told as no memory.
 fn make_folder(link: &mut Link) -> Result<(), Memory>
     ensures { OnOk result (link.new ≡ record link.old { phase = Phase.Idle; folder = Some (link.old.folders + 1); folders = link.old.folders + 1 }) }
 {
