@@ -14,7 +14,7 @@ use crate::put_row::is_standby;
 use crate::remote::{is_standing, lowest_copy, remove_copy};
 use crate::settle::is_synchronous;
 use crate::side::other;
-use crate::transit_rows::is_absent;
+use crate::transit_rows::state_refusal;
 use crate::{Form, Link, Machine, Peer, RemoteCopy, Side, Written};
 use rep_types::{
     Cluster, Duplicate, Items, Memory, Names, Phase, Refusal, Reply, ServerId, SyncState,
@@ -170,13 +170,10 @@ impl Machine {
         ensures no_fault { IfOk result (λ reply. Tells reply no_faults no_faults) }
         ensures grows { IfOk result (λ _. size self.new ≤ size self.old + 1) }
     {
-        let have = self.side(cluster).link.state;
-        let phase = self.side(cluster).link.phase;
-        if is_absent(have) {
-            return Ok(Reply::Refused(Refusal::NoSync));
-        }
-        if !(is_standby(have) && is_idle(phase)) {
-            return Ok(Reply::Refused(Refusal::WrongState { have, phase }));
+        let link = &self.side(cluster).link;
+        let is_right = is_standby(link.state) && is_idle(link.phase);
+        if let Some(why) = state_refusal(link, is_right) {
+            return Ok(Reply::Refused(why));
         }
         self.promote(alloc, cluster)?;
         Ok(Reply::Done)
@@ -213,13 +210,8 @@ impl Machine {
         ensures grows { IfOk result (λ _. size self.new ≤ size self.old + 1) }
     {
         let link = &self.side(cluster).link;
-        let have = link.state;
-        let phase = link.phase;
-        if is_absent(have) {
-            return Ok(Reply::Refused(Refusal::NoSync));
-        }
-        if !is_replaying(phase) {
-            return Ok(Reply::Refused(Refusal::WrongState { have, phase }));
+        if let Some(why) = state_refusal(link, is_replaying(link.phase)) {
+            return Ok(Reply::Refused(why));
         }
         let Some(copy) = lowest_copy(link.replaying.as_slice()) else {
             return Ok(Reply::Refused(Refusal::NoLog));
@@ -247,14 +239,9 @@ impl Machine {
         ensures grows { size self.new ≤ size self.old + 1 }
     {
         let link = &self.side(cluster).link;
-        let have = link.state;
-        let phase = link.phase;
-        let left = link.replaying.len();
-        if is_absent(have) {
-            return Reply::Refused(Refusal::NoSync);
-        }
-        if !(is_replaying(phase) && left == 0) {
-            return Reply::Refused(Refusal::WrongState { have, phase });
+        let is_right = is_replaying(link.phase) && link.replaying.len() == 0;
+        if let Some(why) = state_refusal(link, is_right) {
+            return Reply::Refused(why);
         }
         self.set_phase(cluster, SyncState::Downgrade, Phase::Idle);
         Reply::Done
