@@ -1,5 +1,6 @@
 -- Replies that tell of no failed call among those that a row makes.
-use Rattle.std.proofs.Common.{◌≡◌, true, List, [], None, refl}
+use Rattle.std.proofs.Common.{◌≡◌, true, false, List, [], Option, Some, None, refl}
+use Rattle.std.specs.Prelude.{is_some}
 use Rattle.rep_types.specs.declared.reply.Reply.{Reply}
 use Rattle.rep_types.specs.declared.reply.Reply.TheVariants as reply
 use Rattle.rep_model.specs.declared.faults.Site.{Site}
@@ -51,3 +52,7 @@ calm_none sites (reply.Changed a b) calm = refl
 calm_none sites (reply.Replayed a b d) calm = refl
 calm_none sites (reply.Refused a) calm = refl
 calm_none sites (reply.StoreFault a b d) calm = absurd (cc)
+
+pub none_of : (found : Option Site) → is_some found ≡ false → found ≡ None
+none_of None h = refl
+none_of (Some x) h = absurd (cc)

@@ -147,7 +147,7 @@ delivered p synchronous c failed i (x ∷ xs) m = arrives p synchronous x c i fa
 abbrev pub with_delivered : ℕ → Machine → Machine
 with_delivered k m = record m { flights = given (flight_of k m) m.flights (λ f. replace (is_flight k) (record f { delivered = true }) m.flights) }
 
-abbrev delivery_row : ℕ → Machine → Delivery → Option Cause → Row
+abbrev pub delivery_row : ℕ → Machine → Delivery → Option Cause → Row
 delivery_row k m d None = answers (reply.All d.arrived (acks m d.left)) (with_delivered k d.left)
 delivery_row k m d (Some why) = answers (reply.Stopped d.arrived (acks m d.left) why) d.left
 

@@ -1,15 +1,19 @@
 // The rows of regions that close.
-ghost use Rattle.std.specs.Prelude.{◌≡◌, ◌+◌, ◌^◌, ◌<◌, ◌≤◌, IfOk, length, true, [], ◌∷◌, None, OnOk, IfSome};
+ghost use Rattle.std.specs.Prelude.{◌≡◌, ◌+◌, ◌^◌, ◌<◌, ◌≤◌, IfOk, length, true, [], ◌∷◌, None, OnOk, IfSome, ◌++◌, false};
 ghost use Rattle.rep_model.specs.Built.{size};
 ghost use Rattle.rep_model.specs.Calm.{is_calm};
 ghost use Rattle.rep_model.specs.Places.{closes_at};
-ghost use Rattle.rep_model.specs.RegionEvents.{close_begin_row, close_end_row, marker_left};
+ghost use Rattle.rep_model.specs.RegionEvents.{close_begin_row, close_end_row};
 ghost use Rattle.rep_model.specs.Row.{answers, fault_among, site};
 ghost use Rattle.rep_types.specs.declared.state.Call.TheVariants as Call;
-ghost use Rattle.rep_model.specs.State.{server_of};
+ghost use Rattle.rep_model.specs.State.{is_server, of, server_of, with};
+ghost use Rattle.rep_model.specs.Changes.{takes_pending};
+ghost use Rattle.rep_model.specs.Commits.{settled};
+ghost use Rattle.rep_model.specs.Keyed.{replace};
+ghost use Rattle.rep_model.specs.LogEvents.{emptied};
 
 use crate::change::{append_pending, set_place, take_pending};
-use crate::faults::{call_of, fault_among};
+use crate::faults::{call_of, fault_among, is_put};
 use crate::lookup::{find_region, find_server};
 use crate::places::on_at;
 use crate::settle::{commit_count, pending_count};
@@ -44,7 +48,7 @@ fn close_fault(cluster: Cluster, said: &Reply) -> Option<Site>
 }
 
 impl Machine {
-    // Behind a failed put the marker is committed; else the log is broken, and it is pending.
+    // The marker is committed behind what is pending, or is pending in a broken log.
     fn leave_marker(
         &mut self,
         alloc: Global,
@@ -52,20 +56,22 @@ impl Machine {
         server: ServerId,
         log: u32,
         marker: Pending,
-        failed: Call,
+        committed: bool,
     ) -> Result<(), Memory>
-        ensures left { OnOk result (IfSome (server_of cluster server self.old) (λ x. x.log ≡ log → x.number ≡ server → self.new ≡ marker_left cluster x marker failed self.old)) }
+        ensures committed { OnOk result (committed ≡ true → IfSome (server_of cluster server self.old) (λ x. self.new ≡
+            settled cluster server log (x.pending ++ marker ∷ []) (with cluster (record (of cluster self.old) { servers = replace (is_server server) (emptied x) (of cluster self.old).servers }) self.old))) }
+        ensures pending { OnOk result (committed ≡ false → IfSome (server_of cluster server self.old) (λ x. self.new ≡
+            with cluster (record (of cluster self.old) { servers = replace (is_server server) (takes_pending marker false x) (of cluster self.old).servers }) self.old)) }
         ensures flights { self.new.flights ≡ self.old.flights }
         ensures tickets { length self.new.tickets ≡ length self.old.tickets }
     {
         let servers = &mut self.side_mut(cluster).servers;
-        match failed {
-            Call::Put => {
-                let mut pending = take_pending(alloc, servers, server);
-                pending.push(marker)?;
-                self.settle(alloc, cluster, server, log, pending)
-            }
-            _ => append_pending(servers, server, marker, false),
+        if committed {
+            let mut pending = take_pending(alloc, servers, server);
+            pending.push(marker)?;
+            self.settle(alloc, cluster, server, log, pending)
+        } else {
+            append_pending(servers, server, marker, false)
         }
     }
 
@@ -143,7 +149,8 @@ impl Machine {
             ticket: None,
         };
         if let Some(failed) = close_fault(cluster, said) {
-            self.leave_marker(alloc, cluster, server, log, marker, failed.call)?;
+            let committed = is_put(failed.call);
+            self.leave_marker(alloc, cluster, server, log, marker, committed)?;
             return said.copy(alloc);
         }
         let told = Items::from_slice(alloc, self.tickets.as_slice())?;

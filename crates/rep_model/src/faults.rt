@@ -5,7 +5,7 @@ ghost use Rattle.rep_types.specs.declared.state.Call.TheVariants as Call;
 ghost use Rattle.std.specs.List.{list_any};
 ghost use Rattle.rep_model.specs.Calm.{is_calm};
 ghost use Rattle.rep_model.specs.QueueEvents.{failing, failing_by, fails_at};
-ghost use Rattle.rep_model.specs.Row.{call_number, fault_among, is_site, run_sites, site};
+ghost use Rattle.rep_model.specs.Row.{call_number, fault_among, is_put, is_site, run_sites, site};
 
 use crate::side::mark;
 use rep_types::{Call, Cause, Cluster, Reply};
@@ -122,6 +122,12 @@ pub fn fails_at(failing: &Option<Failing>, index: u64) -> Option<Cause>
         }
         None => None,
     }
+}
+
+pub fn is_put(call: Call) -> bool
+    ensures { result ≡ is_put call }
+{
+    call_number(call) == 9
 }
 
 /// The call that failed of those that write a region's run.

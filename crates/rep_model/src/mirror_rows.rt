@@ -9,7 +9,7 @@ ghost use Rattle.rep_model.specs.Commits.{stands_in, log_commits};
 ghost use Rattle.rep_model.specs.Copies.{is_copy_in, unoffered, with_copy};
 ghost use Rattle.rep_model.specs.Peers.{is_synchronous};
 ghost use Rattle.rep_model.specs.Row.{answers, fault_among};
-ghost use Rattle.rep_model.specs.PeerEvents.{peer_needs_copy, copy_needer, sweepable, is_nothing, mirror_sites, mirror_row, sweep_remote_row};
+ghost use Rattle.rep_model.specs.PeerEvents.{peer_needs_copy, copy_needer, sweepable, mirror_sites, mirror_row, sweep_remote_row};
 
 use crate::faults::{call_of, fault_among};
 use crate::lookup::find_server;
@@ -50,7 +50,8 @@ fn add_unoffered(
     Ok(())
 }
 
-// The copy once all commits of its log were offered to it and are confirmed.
+// The copy once all commits of its log were offered to it and are confirmed. More than 32 bits count
+// are told as no memory.
 fn mirrored(alloc: Global, copy: &RemoteCopy, commits: &[Commit]) -> Result<RemoteCopy, Memory>
     ensures { IfOk result (λ made. made ≡ record copy.now {
       offered = copy.now.offered ++ unoffered copy.now commits.now;
@@ -91,18 +92,18 @@ fn broken(alloc: Global, copy: &RemoteCopy, commits: &[Commit]) -> Result<Remote
     })
 }
 
-fn has_unoffered(copy: &RemoteCopy, commits: &[Commit]) -> bool
-    ensures { is_nothing (unoffered copy.now commits.now) ≡ not result }
+// Whether a commit of the log isn't among these.
+fn has_another(entries: &[Commit], commits: &[Commit], server: ServerId, log: u32) -> bool
+    ensures { result ≡ list_any (λ x. not (stands_in entries.now x)) (log_commits server log commits.now) }
 {
-    for commit in commits {
-        if is_unoffered(copy, commit) {
-            return true;
-        }
-    }
-    false
+    commits
+        .iter()
+        .filter(|commit| commit.server == server && commit.log == log)
+        .any(|commit| !stands_in(entries, commit))
 }
 
 // The call that failed: an append where something is new, or the sync.
+#[tactic(auto, using(crate::proofs::Filters::nothing_unoffered))]
 fn mirror_fault(
     cluster: Cluster,
     copy: &RemoteCopy,
@@ -114,7 +115,7 @@ fn mirror_fault(
 {
     let to = other(cluster);
     let sync = call_of(to, Call::Sync);
-    if has_unoffered(copy, commits) {
+    if has_another(copy.offered.as_slice(), commits, copy.server, copy.log) {
         fault_among(&[call_of(to, Call::Append), sync], said)
     } else {
         fault_among(&[sync], said)
@@ -130,15 +131,6 @@ fn log_count(commits: &[Commit], server: ServerId, log: u32) -> usize
         .count()
 }
 
-fn has_unrecorded(peer: &Peer, commits: &[Commit], server: ServerId, log: u32) -> bool
-    ensures { result ≡ list_any (λ x. not (stands_in peer.now.recorded x)) (log_commits server log commits.now) }
-{
-    commits
-        .iter()
-        .filter(|commit| commit.server == server && commit.log == log)
-        .any(|commit| !stands_in(peer.recorded.as_slice(), commit))
-}
-
 // A commit of the copy's log stands before the peer's start or isn't recorded.
 fn lacks_copy(peer: &Peer, commits: &[Commit], copy: &RemoteCopy) -> bool
     ensures { result ≡ peer_needs_copy commits.now copy.now peer.now }
@@ -146,7 +138,7 @@ fn lacks_copy(peer: &Peer, commits: &[Commit], copy: &RemoteCopy) -> bool
     let server = copy.server;
     let log = copy.log;
     log_count(after(commits, peer.start), server, log) < log_count(commits, server, log)
-        || has_unrecorded(peer, commits, server, log)
+        || has_another(peer.recorded.as_slice(), commits, server, log)
 }
 
 fn needs_copy(peer: &Peer, commits: &[Commit], copy: &RemoteCopy) -> bool

@@ -16,7 +16,7 @@ use crate::put_row::is_standby;
 use crate::remote::{is_standing, lowest_copy, remove_copy};
 use crate::settle::is_synchronous;
 use crate::side::other;
-use crate::transit_rows::is_absent;
+use crate::transit_rows::state_refusal;
 use crate::{Commit, Form, Link, Machine, Peer, RemoteCopy, Side, Site, Written};
 use rep_types::{
     Call, Cluster, Duplicate, Items, Memory, Names, Phase, Refusal, Reply, ServerId, SyncState,
@@ -35,7 +35,7 @@ fn is_replaying(phase: Phase) -> bool
     matches!(phase, Phase::Replaying { .. })
 }
 
-// So many are left to be replayed.
+// So many are left to be replayed. More than 32 bits count are told as no memory.
 fn replaying(left: &Items<RemoteCopy>) -> Result<Phase, Memory>
     ensures { IfOk result (λ phase. phase ≡ Phase.Replaying (length left.now)) }
 {
@@ -88,7 +88,8 @@ fn write_forms(written: &mut Items<Written>, forms: Items<Form>) -> Result<(), M
 }
 
 impl Link {
-    // No folder stands, and all copies in the renamed one are to be replayed.
+    // No folder stands, and all copies in the renamed one are to be replayed. That no number of 32
+    // bits is left for the promotion is told as no memory.
     fn promote(&mut self, alloc: Global) -> Result<(), Memory>
         ensures { OnOk result (self.new ≡ record self.old {
           phase = Phase.Replaying (length (filter (is_standing self.old.folder) self.old.copies));
@@ -214,13 +215,10 @@ impl Machine {
         ensures calm { is_calm said.now ≡ true → IfOk result (λ reply. is_calm reply ≡ true) }
         ensures grows { IfOk result (λ _. size self.new ≤ size self.old + 1) }
     {
-        let have = self.side(cluster).link.state;
-        let phase = self.side(cluster).link.phase;
-        if is_absent(have) {
-            return Ok(Reply::Refused(Refusal::NoSync));
-        }
-        if !(is_standby(have) && is_idle(phase)) {
-            return Ok(Reply::Refused(Refusal::WrongState { have, phase }));
+        let link = &self.side(cluster).link;
+        let is_right = is_standby(link.state) && is_idle(link.phase);
+        if let Some(why) = state_refusal(link, is_right) {
+            return Ok(Reply::Refused(why));
         }
         if fault_among(&[call_of(cluster, Call::Rename)], said).is_some() {
             return said.copy(alloc);
@@ -265,13 +263,8 @@ impl Machine {
         ensures grows { IfOk result (λ _. size self.new ≤ size self.old + 1) }
     {
         let link = &self.side(cluster).link;
-        let have = link.state;
-        let phase = link.phase;
-        if is_absent(have) {
-            return Ok(Reply::Refused(Refusal::NoSync));
-        }
-        if !is_replaying(phase) {
-            return Ok(Reply::Refused(Refusal::WrongState { have, phase }));
+        if let Some(why) = state_refusal(link, is_replaying(link.phase)) {
+            return Ok(Reply::Refused(why));
         }
         let Some(copy) = lowest_copy(link.replaying.as_slice()) else {
             return Ok(Reply::Refused(Refusal::NoLog));
@@ -313,14 +306,9 @@ impl Machine {
         ensures grows { IfOk result (λ _. size self.new ≤ size self.old + 1) }
     {
         let link = &self.side(cluster).link;
-        let have = link.state;
-        let phase = link.phase;
-        let left = link.replaying.len();
-        if is_absent(have) {
-            return Ok(Reply::Refused(Refusal::NoSync));
-        }
-        if !(is_replaying(phase) && left == 0) {
-            return Ok(Reply::Refused(Refusal::WrongState { have, phase }));
+        let is_right = is_replaying(link.phase) && link.replaying.len() == 0;
+        if let Some(why) = state_refusal(link, is_right) {
+            return Ok(Reply::Refused(why));
         }
         if fault_among(&[call_of(cluster, Call::Put)], said).is_some() {
             return said.copy(alloc);

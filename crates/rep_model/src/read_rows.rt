@@ -5,15 +5,16 @@ ghost use Rattle.rep_model.specs.Calm.{is_calm};
 ghost use Rattle.rep_model.specs.Reads.{get_row, show_row};
 
 use crate::Machine;
+use crate::faults::{call_of, fault_among};
 use crate::lookup::{find_server, find_serving, find_table};
 use crate::places::on_at;
 use crate::views::{row_edits, see, table_edits};
-use rep_types::{Cluster, Key, Memory, Name, Refusal, RegionId, Reply};
+use rep_types::{Call, Cluster, Duplicate, Key, Memory, Name, Refusal, RegionId, Reply};
 use std::alloc::Global;
 
 impl Machine {
     /// The row's cells, where a server serves it.
-    #[tactic(auto, using(crate::proofs::Calm::no_sites), unfolding(crate::specs::Reads::get_row, crate::specs::Keyed::given))]
+    #[tactic(auto, unfolding(crate::specs::Reads::get_row, crate::specs::Keyed::given))]
     pub(crate) fn get(
         &self,
         alloc: Global,
@@ -45,6 +46,9 @@ impl Machine {
         if find_server(&side.servers, server).is_none() {
             return Ok(Reply::Refused(Refusal::NotServing { region }));
         }
+        if fault_among(&[call_of(cluster, Call::Read)], said).is_some() {
+            return said.copy(alloc);
+        }
         let edits = row_edits(alloc, side.written.as_slice(), table, row)?;
         Ok(Reply::Shown {
             cells: see(alloc, edits.as_slice())?,
@@ -52,7 +56,7 @@ impl Machine {
     }
 
     /// The table's cells, whatever the places and the state.
-    #[tactic(auto, using(crate::proofs::Calm::no_sites), unfolding(crate::specs::Reads::show_row, crate::specs::Keyed::given))]
+    #[tactic(auto, unfolding(crate::specs::Reads::show_row, crate::specs::Keyed::given))]
     pub(crate) fn show(
         &self,
         alloc: Global,
@@ -66,6 +70,9 @@ impl Machine {
         let side = self.side(cluster);
         if find_table(&side.tables, table).is_none() {
             return Ok(Reply::Refused(Refusal::NoTable));
+        }
+        if fault_among(&[call_of(cluster, Call::Read)], said).is_some() {
+            return said.copy(alloc);
         }
         let edits = table_edits(alloc, side.written.as_slice(), table)?;
         Ok(Reply::Shown {

@@ -1,10 +1,10 @@
 // The rows of changes of state: transitbegin, transitend and makefolder.
-ghost use Rattle.std.specs.Prelude.{◌≡◌, ◌+◌, ◌^◌, ◌<◌, ◌≤◌, ◌&&◌, true, not, Some, None, length, IfOk, OnOk};
+ghost use Rattle.std.specs.Prelude.{◌≡◌, ◌+◌, ◌^◌, ◌<◌, ◌≤◌, ◌∷◌, [], true, not, Some, None, length, IfOk, OnOk};
 ghost use Rattle.rep_model.specs.Built.{size};
 ghost use Rattle.rep_model.specs.Calm.{is_calm};
 ghost use Rattle.rep_model.specs.State.{of, with_link};
 ghost use Rattle.rep_model.specs.Peers.{is_absent};
-ghost use Rattle.rep_model.specs.Row.{answers};
+ghost use Rattle.rep_model.specs.Row.{answers, first};
 ghost use Rattle.rep_model.specs.PeerEvents.{same_state, leads_to, is_allowed, with_phase, target_of, changed_to, lacks_folder, transit_begin_row, transit_end_row, make_folder_row};
 
 use crate::doubt::newly_doubtful;
@@ -19,10 +19,27 @@ use crate::{Link, Machine, Told};
 use rep_types::{Call, Cluster, Duplicate, Items, Memory, Phase, Refusal, Reply, SyncState};
 use std::alloc::Global;
 
-pub fn is_absent(state: SyncState) -> bool
+fn is_absent(state: SyncState) -> bool
     ensures { result ≡ is_absent state }
 {
     matches!(state, SyncState::Absent)
+}
+
+/// Why an event on the state of the synchronous peer doesn't come: there is none, or the state and
+/// the phase aren't right for it.
+pub fn state_refusal(link: &Link, is_right: bool) -> Option<Refusal>
+    ensures { result ≡ first ((is_absent link.now.state, Refusal.NoSync) ∷ (not is_right, Refusal.WrongState link.now.state link.now.phase) ∷ []) }
+{
+    if is_absent(link.state) {
+        return Some(Refusal::NoSync);
+    }
+    if !is_right {
+        return Some(Refusal::WrongState {
+            have: link.state,
+            phase: link.phase,
+        });
+    }
+    None
 }
 
 fn same_state(state: SyncState, other: SyncState) -> bool
@@ -77,7 +94,7 @@ fn lacks_folder(phase: Phase) -> bool
     matches!(phase, Phase::NoFolder)
 }
 
-// The next folder stands.
+// The next folder stands. That no number of 32 bits is left for it is told as no memory.
 fn make_folder(link: &mut Link) -> Result<(), Memory>
     ensures { OnOk result (link.new ≡ record link.old { phase = Phase.Idle; folder = Some (link.old.folders + 1); folders = link.old.folders + 1 }) }
 {
@@ -114,13 +131,10 @@ impl Machine {
         ensures calm { is_calm said.now ≡ true → IfOk result (λ reply. is_calm reply ≡ true) }
         ensures grows { IfOk result (λ _. size self.new ≤ size self.old + 1) }
     {
-        let have = self.side(cluster).link.state;
-        let phase = self.side(cluster).link.phase;
-        if is_absent(have) {
-            return Ok(Reply::Refused(Refusal::NoSync));
-        }
-        if !is_allowed(have, phase, to) {
-            return Ok(Reply::Refused(Refusal::WrongState { have, phase }));
+        let link = &self.side(cluster).link;
+        let have = link.state;
+        if let Some(why) = state_refusal(link, is_allowed(have, link.phase, to)) {
+            return Ok(Reply::Refused(why));
         }
         if is_active(to) && self.side(other(cluster)).link.folder.is_none() {
             return Ok(Reply::Refused(Refusal::NoRemoteFolder));
@@ -232,13 +246,10 @@ impl Machine {
         ensures calm { is_calm said.now ≡ true → IfOk result (λ reply. is_calm reply ≡ true) }
         ensures grows { IfOk result (λ _. size self.new ≤ size self.old + 1) }
     {
-        let have = self.side(cluster).link.state;
-        let phase = self.side(cluster).link.phase;
-        if is_absent(have) {
-            return Ok(Reply::Refused(Refusal::NoSync));
-        }
-        if !(is_standby(have) && lacks_folder(phase)) {
-            return Ok(Reply::Refused(Refusal::WrongState { have, phase }));
+        let link = &self.side(cluster).link;
+        let is_right = is_standby(link.state) && lacks_folder(link.phase);
+        if let Some(why) = state_refusal(link, is_right) {
+            return Ok(Reply::Refused(why));
         }
         if fault_among(&[call_of(cluster, Call::Make)], said).is_some() {
             return said.copy(alloc);

@@ -1,4 +1,4 @@
-use Rattle.std.proofs.Common.{◌≡◌, ◌+◌, [], ◌∷◌, ◌++◌, Some, None, not, nat_lt, false, find, length, rules, arith}
+use Rattle.std.proofs.Common.{◌≡◌, ◌+◌, [], ◌∷◌, ◌++◌, Some, None, not, nat_lt, false, find, length, rules, arith, sym, ◌∙◌}
 use Rattle.std.proofs.lemmas.Bool.Decides.{nat_tests}
 use Rattle.rep_types.specs.declared.state.PlaceOf.TheVariants as place
 use Rattle.rep_model.specs.Keyed.{replace}
@@ -8,6 +8,7 @@ use Rattle.rep_model.specs.Places.{is_off, is_closed}
 use Rattle.rep_model.specs.RegionEvents.{hosted, moved, splits}
 use Rattle.rep_model.specs.Row.{fault_among, run_sites, site}
 use Rattle.rep_types.specs.declared.state.Call.TheVariants as call
+use Rattle.rep_model.proofs.Calm.{none_of}
 use Rattle.rep_model.proofs.Retiring.{split-done}
 use Rattle.rep_model.proofs.machine.Machine.split.Goals as goal
 
@@ -35,5 +36,5 @@ returns-clause-row c =
     let lowers : lower ≡ hosted (record { number = low; table = h.region.table; low = h.region.low; high = Some key; parents = h.region.number ∷ []; generation = h.region.generation + 1 }) = search rules in
     let highers : higher ≡ hosted (record { number = high; table = h.region.table; low = Some key; high = h.region.high; parents = h.region.number ∷ []; generation = h.region.generation + 1 }) = search rules in
     let left : c.push-2.new.self ≡ (replace (is_region r) (moved place.Gone (record h { flushed = commit_count r (of k m).commits })) (of k m).regions ++ lower ∷ []) ++ higher ∷ [] = search rules in
-    let done : fault_among (run_sites k (site k call.Put ∷ [])) c.args.said.now ≡ None = search rules in
+    let done : fault_among (run_sites k (site k call.Put ∷ [])) c.args.said.now ≡ None = sym c.run_fault.ensures.sites ∙ none_of c.run_fault.result (search rules) in
     split-done k r key m c.side_mut.result.now c.push-2.new.self h lower higher low high c.args.said.now found rn off closed fits few done lows highs lowers highers c.side_mut.ensures.value left
