@@ -98,18 +98,18 @@ impl Decoder {
         }
     }
 
-    /// What the bytes are, from their first on, as `decode_frame` tells it. They are those of the
-    /// last call, or begin with these, until a frame or a broken item was told. Items that were
-    /// judged are not looked at again, and none is while the item in which the bytes ended doesn't
-    /// stand whole; that of a write's cell or of what stands before the cells is judged with the
-    /// items of that part.
+    /// What the bytes are, from their first on, as `decode_frame` tells it. Until a frame or a broken
+    /// item is told, each call is shown the bytes of the one before, and maybe more behind them.
+    ///
+    /// Nothing is looked at before the item in which the bytes ended stands whole. An item that was
+    /// judged is looked at again only with the rest of its part: a cell, or all before the cells.
     pub fn decode(&mut self, alloc: Global, bytes: &[u8]) -> Result<Decoded, Memory>
         requires { HasSeen self.old bytes.now }
         // A frame where all its items stand unbroken, `Bad` where an item is broken, else `Short`.
         ensures exact { Answers result (verdict bytes.now) }
         // What is decoded is spelled so.
         ensures spelled { IfFrame result (BeginsWithFrame bytes.now) }
-        // What was judged stays so, also where memory ran out.
+        // It goes on from where it stands now, also where memory ran out.
         ensures seen { HasSeen self.new bytes.now }
         // After a frame or a broken item it begins anew.
         ensures done { IfDone result (self.new ≡ fresh) }
