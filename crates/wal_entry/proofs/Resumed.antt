@@ -13,13 +13,13 @@ use Rattle.wal_entry.specs.declared.decode.cursor.Stop.{Stop}
 use Rattle.wal_entry.specs.declared.decode.edit.Heading.{Heading}
 use Rattle.wal_entry.specs.declared.decode.frame.Fields.{Fields}
 use Rattle.wal_entry.specs.declared.decode.write.Begun.{Begun}
-use Rattle.wal_entry.specs.Judging.{Place, Grammar, Item, ToEnd, Known, Then, Verdict, Whole, Broken, Cut, IsCut, and_then, standing, item, judge}
+use Rattle.wal_entry.specs.Judging.{Place, Grammar, Item, ToEnd, Known, Then, Verdict, Whole, Broken, Cut, and_then, standing, item, judge}
 use Rattle.wal_entry.specs.Frame.{cell, cells, heading, edit, body, padding, fields, entry_of, last, after_length, frame_length, verdict}
 use Rattle.wal_entry.specs.Resumed.{edit_with, remaining, place_in, IsBegun, HasSeen, fresh}
 use Rattle.wal_entry.specs.Steps.{Stops}
 use Rattle.wal_entry.proofs.Edit.{not_refused}
 use Rattle.wal_entry.proofs.Loop.{Stops-then, one_more, Stops-cells, none_left}
-use Rattle.wal_entry.proofs.Pieces.{longer, counts, stays_whole, cut_is_cut}
+use Rattle.wal_entry.proofs.Pieces.{longer, counts, stays_whole}
 use Rattle.wal_entry.proofs.Places.{IsBytes, same_place}
 use Rattle.wal_entry.proofs.Verdicts.{verdict_takes}
 
@@ -186,12 +186,8 @@ still_begun (Some b) bytes more h = record {
 pub has_seen_more : (d : Decoder) (bytes more : List ℕ) → HasSeen d bytes → HasSeen d (bytes ++ more)
 has_seen_more d bytes more h = record {
   begun = still_begun d.begun bytes more h.begun;
-  waits = λ others. subst (λ (all : List ℕ). length all < d.until → IsCut (verdict all)) (sym (append_assoc bytes more others)) (h.waits (more ++ others));
+  waits = λ others. subst (λ (all : List ℕ). length all < d.until → verdict all ≡ Cut d.until) (sym (append_assoc bytes more others)) (h.waits (more ++ others));
 }
 
 pub fresh_has_seen : (bytes : List ℕ) → HasSeen fresh bytes
 fresh_has_seen bytes = record { begun = tt; waits = λ more few. absurd (omega (arith, few)) }
-
--- what was cut waits for the end of the item
-pub cut_waits : (bytes : List ℕ) (until : ℕ) → verdict bytes ≡ Cut until → (more : List ℕ) → length (bytes ++ more) < until → IsCut (verdict (bytes ++ more))
-cut_waits bytes until h more few = (until, cut_is_cut bytes more until h few)

@@ -35,6 +35,13 @@ IfFrame (Ok (Bad at rule)) fact = Unit {0}
 IfFrame (Ok Short) fact = Unit {0}
 IfFrame (Err memory) fact = Unit {0}
 
+-- a fact where the bytes end before a frame does
+abbrev pub IfShort : Result Decoded Memory → Type 0 → Type 0
+IfShort (Ok (Frame entry size)) fact = Unit {0}
+IfShort (Ok (Bad at rule)) fact = Unit {0}
+IfShort (Ok Short) fact = fact
+IfShort (Err memory) fact = Unit {0}
+
 -- a fact where the answer can't change
 abbrev pub IfDone : Result Decoded Memory → Type 0 → Type 0
 IfDone (Ok (Frame entry size)) fact = fact

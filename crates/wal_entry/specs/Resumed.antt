@@ -6,7 +6,7 @@ use Rattle.rep_types.specs.declared.cell.Cell.{Cell}
 use Rattle.rep_types.specs.Edit.{EditValue}
 use Rattle.wal_entry.specs.declared.decode.Decoder.{Decoder}
 use Rattle.wal_entry.specs.declared.decode.write.Begun.{Begun}
-use Rattle.wal_entry.specs.Judging.{Place, Grammar, IsCut, ◌>>=◌, judge}
+use Rattle.wal_entry.specs.Judging.{Place, Grammar, Cut, ◌>>=◌, judge}
 use Rattle.wal_entry.specs.Frame.{cells, last, verdict}
 
 -- the edit that has these cells
@@ -30,10 +30,15 @@ pub record IsBegun (b : Begun) (bytes : List ℕ) : Type 0 where
   pub most : b.end ≤ 8224
   pub decides : (more : List ℕ) → verdict (bytes ++ more) ≡ judge (remaining b) (place_in b (bytes ++ more))
 
--- The decoder was shown these bytes, or first ones of them. With fewer bytes in all than it waits for they stay cut.
+-- The decoder was shown these bytes, or first ones of them. While there are fewer bytes in all than it waits for, they are
+-- cut in the item that ends there.
 pub record HasSeen (d : Decoder) (bytes : List ℕ) : Type 0 where
   pub begun : IfSome d.begun (λ b. IsBegun b bytes)
-  pub waits : (more : List ℕ) → length (bytes ++ more) < d.until → IsCut (verdict (bytes ++ more))
+  pub waits : (more : List ℕ) → length (bytes ++ more) < d.until → verdict (bytes ++ more) ≡ Cut d.until
+
+-- how many bytes have to be there before it looks at any
+abbrev pub waits_for : Decoder → ℕ
+waits_for d = d.until
 
 -- nothing was judged yet
 abbrev pub fresh : Decoder

@@ -2,10 +2,11 @@ ghost use Rattle.std.specs.Prelude.{◌≡◌, ◌≤◌, ◌++◌, ℕ, List, N
 ghost use Rattle.std.specs.Option.{SomeIff};
 ghost use Rattle.byteorder.specs.Endian.{big_number};
 ghost use Rattle.wal_entry.specs.Frame.{verdict};
-ghost use Rattle.wal_entry.specs.Decoded.{Answers, BeginsWithFrame, IfFrame, IfDone, IsFrame};
+ghost use Rattle.wal_entry.specs.Decoded.{Answers, BeginsWithFrame, IfFrame, IfShort, IfDone, IsFrame};
 ghost use Rattle.wal_entry.specs.Framed.{HasFrame};
 ghost use Rattle.wal_entry.specs.Length.{frame_length_of};
-ghost use Rattle.wal_entry.specs.Resumed.{IsBegun, HasSeen, fresh};
+ghost use Rattle.wal_entry.specs.Judging.{Cut};
+ghost use Rattle.wal_entry.specs.Resumed.{IsBegun, HasSeen, fresh, waits_for};
 ghost use Rattle.wal_entry.specs.Spelling.{spelling};
 ghost use Rattle.wal_entry.specs.Steps.{Starts, StopsIfErr};
 
@@ -109,6 +110,8 @@ impl Decoder {
         ensures exact { Answers result (verdict bytes.now) }
         // What is decoded is spelled so.
         ensures spelled { IfFrame result (BeginsWithFrame bytes.now) }
+        // It waits for the end of the item in which the bytes end.
+        ensures waits { IfShort result (verdict bytes.now ≡ Cut (waits_for self.new)) }
         // It goes on from where it stands now, also where memory ran out.
         ensures seen { HasSeen self.new bytes.now }
         // After a frame or a broken item it begins anew.

@@ -1,5 +1,5 @@
 use Rattle.std.proofs.Common.{arith}
-use Rattle.wal_entry.proofs.Resumed.{cut_waits}
+use Rattle.wal_entry.proofs.Pieces.{cut_is_cut}
 use Rattle.wal_entry.proofs.Verdicts.{frame_begins}
 use Rattle.wal_entry.proofs.decode.Decoder.decode.Goals as goal
 
@@ -10,5 +10,5 @@ returns-in-Ok-clause-spelled c =
 pub returns-in-Err-Short-clause-seen : goal.returns-in-Err-Short-clause-seen
 returns-in-Err-Short-clause-seen c = record {
   begun = c.judge.ensures.begun;
-  waits = cut_waits c.args.bytes.now c.in-Err-Short.until (rw c.in-Err-Short.field-0-is at c.in-Err-Short.ensures.stops);
+  waits = λ more. cut_is_cut c.args.bytes.now more c.in-Err-Short.until (rw c.in-Err-Short.field-0-is at c.in-Err-Short.ensures.stops);
 }
