@@ -1,6 +1,9 @@
 pub mod Events
 pub mod Lines
 pub mod Lists
+pub mod QueueLine
+pub mod RegionLine
 pub mod Replies
+pub mod StatusLine
 pub mod Values
 pub mod Words

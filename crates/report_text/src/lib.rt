@@ -6,10 +6,16 @@ mod cell;
 mod event;
 mod lines;
 mod lists;
+mod queues;
 mod refusal;
+mod regions;
 mod reply;
+mod summary;
 #[cfg(test)]
 mod tests;
 mod words;
 
 pub use lines::{print_lines, print_record, views};
+pub use queues::queue_line;
+pub use regions::region_line;
+pub use summary::status_line;

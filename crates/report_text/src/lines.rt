@@ -42,7 +42,7 @@ fn write_lines(out: &mut Vec<u8>, journal: &[Record]) -> io::Result<()>
 }
 
 // A vector takes all bytes unless memory is short.
-fn or_memory(written: io::Result<()>) -> Result<(), Memory>
+pub(crate) fn or_memory(written: io::Result<()>) -> Result<(), Memory>
     ensures { OnOk result (IsOk written) }
 {
     match written {

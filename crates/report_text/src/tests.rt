@@ -1,7 +1,8 @@
 use super::*;
 use rep_types::{
-    Bytes, Call, Cause, CellView, Cluster, Event, Items, Key, Name, Phase, Record, Refusal,
-    RegionId, Reply, ServerId, SyncState, Tickets, Views,
+    Bytes, Call, Cause, CellView, Cluster, Event, Items, Key, Name, PeerId, Phase, PlaceOf,
+    QueueView, Record, Refusal, RegionId, RegionLine, Reply, ServerId, SideLine, StatusLine,
+    SyncState, Tickets, Views,
 };
 use std::alloc::Global;
 use std::test::Fail;
@@ -125,5 +126,64 @@ fn long_values_are_counted(rt: HostRuntime) -> Result<(), Fail> {
         views(&shown(alloc, length)?, &mut out)?;
         assert_eq!(rt; out.as_slice(), text.as_bytes());
     }
+    Ok(())
+}
+
+fn side(alloc: Global, commits: u64, live: &[ServerId]) -> Result<SideLine, Fail> {
+    Ok(SideLine {
+        commits,
+        live: Items::from_slice(alloc, live)?,
+        sync: SyncState::Absent,
+    })
+}
+
+#[test]
+fn the_status_is_printed(rt: HostRuntime) -> Result<(), Fail> {
+    let alloc = rt.alloc();
+    let first = ServerId::new(1).ok_or("no server")?;
+    let second = ServerId::new(2).ok_or("no server")?;
+    let status = StatusLine {
+        a: side(alloc, 2, &[first, second])?,
+        b: side(alloc, 0, &[])?,
+        flights: 1,
+        records: 16,
+    };
+    let mut out = Vec::new(alloc);
+    status_line(alloc, &status, &mut out)?;
+    let text =
+        "{\"a\":{\"commits\":2,\"live\":[1,2],\"sync\":\"absent\"},\"b\":{\"commits\":0,\"live\":[],\"sync\":\"absent\"},\"flights\":1,\"records\":16}\n";
+    assert_eq!(rt; out.as_slice(), text.as_bytes());
+    Ok(())
+}
+
+#[test]
+fn queues_and_regions_are_printed(rt: HostRuntime) -> Result<(), Fail> {
+    let alloc = rt.alloc();
+    let server = ServerId::new(2).ok_or("no server")?;
+    let peer = PeerId::new(1).ok_or("no peer")?;
+    let region = RegionId::new(1).ok_or("no region")?;
+    let cluster = Cluster::A;
+    let view = QueueView {
+        owner: server,
+        left: 3,
+        flight: None,
+    };
+    let line = RegionLine {
+        cluster,
+        region,
+        table: Name::new(alloc, "t")?,
+        low: None,
+        high: Some(Key::new(alloc, "m")?),
+        place: PlaceOf::On(server),
+        barriers: Items::from_slice(alloc, &[1, 4])?,
+        final_barrier: None,
+        parents: Items::new(alloc),
+    };
+    let mut out = Vec::new(alloc);
+    queue_line(cluster, peer, server, &view, &mut out)?;
+    region_line(&line, &mut out)?;
+    let text =
+        "queue a 1 2 owner=2 left=3 flight=none\nregion a 1 t - m on:2 barriers=1,4 final=none parents=-\n";
+    assert_eq!(rt; out.as_slice(), text.as_bytes());
     Ok(())
 }

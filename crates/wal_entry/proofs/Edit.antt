@@ -8,12 +8,13 @@ use Rattle.std.proofs.lemmas.List.Sums.{sum_by-cons}
 use Rattle.std.proofs.lemmas.List.Elements.{All-from_recursion, recursion_from_All}
 use Rattle.byteorder.specs.Endian.{big_bytes}
 use Rattle.rep_types.specs.Text.{name_refusal, key_refusal}
-use Rattle.rep_types.specs.Edit.{EditValue, IsEdit, edit_length, cell_length, kind_length, edit_refusal}
+use Rattle.rep_types.specs.Edit.{EditValue, IsEdit, repeats, edit_length, cell_length, kind_length, edit_refusal}
 use Rattle.rep_types.specs.declared.cell.Cell.{Cell}
 use Rattle.rep_types.specs.declared.cell.CellKind.{CellKind}
 use Rattle.rep_types.specs.declared.cell.CellKind.TheVariants.{Put, Erase}
-use Rattle.wal_entry.specs.Judging.{Place, Whole, judge}
-use Rattle.wal_entry.specs.Frame.{is_name, is_key, name, key, number, cells, edit}
+use Rattle.wal_entry.specs.declared.decode.edit.Heading.{Heading}
+use Rattle.wal_entry.specs.Judging.{Place, Whole, and_then, judge}
+use Rattle.wal_entry.specs.Frame.{is_name, is_key, name, key, cells, heading, edit}
 use Rattle.wal_entry.specs.Framed.{HasValue, IsTypedCell, IsTypedEdit}
 use Rattle.wal_entry.specs.Spelling.{sized, cell_kind_spelling, cell_spelling, cells_spelling, edit_spelling}
 use Rattle.wal_entry.proofs.Cell.{FitsCell, IsShort, name_again}
@@ -87,19 +88,30 @@ pub record HasRoom (p : Place) : Type 0 where
   pub start : 32 ≤ p.at
   pub end : p.end ≤ 8224
 
+whole_edit : (p q : Place) (e : EditValue) (count : ℕ) → HasRoom p → Passes p (edit_spelling e) q → q.at ≤ q.end → length e.cells ≡ count → 1 ≤ count → count ≤ 64 → repeats e.cells ≡ false → IsEdit e
+whole_edit p q e count room h within counted least most distinct = record {
+  some = omega (arith, counted, least);
+  few = omega (arith, counted, most);
+  distinct = distinct;
+  short = omega (arith, length-edit e, h.at, h.end, within, room.start, room.end);
+}
+
 pub edit_takes : (p q : Place) (e : EditValue) → IsBytes p.rest → HasRoom p → judge edit p ≡ Whole e q → IsEditAt p e q
-unfolding edit name key
+unfolding edit heading name key
 edit_takes p q e fits room h =
-    let a = and_then_whole _ _ e q h in
+    let first = and_then_whole _ _ e q h in
+    let a = and_then_whole _ _ first.0 first.1 first.2 in
     let table = text_takes 1 1 16 is_name p a.1 a.0 size_1 fits a.2 in
     let fits1 = IsBytes-passed p a.1 (sized 1 a.0) table.passes fits in
-    let b = and_then_whole _ _ e q a.3 in
+    let b = and_then_whole _ _ first.0 first.1 a.3 in
     let row = text_takes 2 1 64 is_key a.1 b.1 b.0 size_2 fits1 b.2 in
     let fits2 = IsBytes-passed a.1 b.1 (sized 2 b.0) row.passes fits1 in
-    let c = and_then_whole _ _ e q b.3 in
+    let c = and_then_whole _ _ first.0 first.1 b.3 in
     let count = number_takes 10 1 1 64 b.1 c.1 c.0 size_1 fits2 c.2 in
     let fits3 = IsBytes-passed b.1 c.1 (big_bytes 1 c.0) count.passes fits2 in
-    let d = and_then_whole _ _ e q c.3 in
+    let read : Heading = record { table = a.0; row = b.0; count = c.0 } in
+    of_whole (λ head m. and_then (judge (cells head.count []) m) (λ all w. Whole (record { table = head.table; row = head.row; cells = all }) w) ≡ Whole e q → IsEditAt p e q) read first.0 c.1 first.1 c.3 (λ then.
+    let d = and_then_whole _ _ e q then in
     let all = cells_take c.0 [] d.0 c.1 d.1 fits3 count.within d.2 in
     let made : EditValue = record { table = a.0; row = b.0; cells = d.0 } in
     let same : all.more ≡ d.0 = sym all.whole in
@@ -115,19 +127,14 @@ edit_takes p q e fits room h =
         table = none_is (name_refusal a.0) table.is_allowed;
         row = none_is (key_refusal b.0) row.is_allowed;
         cells = All-from_recursion IsTypedCell d.0 (typed_cells d.0 fit);
-        whole = record {
-          some = omega (arith, counted, count.least);
-          few = omega (arith, counted, count.most);
-          distinct = all.distinct refl;
-          short = omega (arith, length-edit made, whole.at, whole.end, all.within, room.start, room.end);
-        };
+        whole = whole_edit p d.1 made c.0 room whole all.within counted count.least count.most (all.distinct refl);
       };
       values = All-from_recursion (λ c. HasValue c.kind) d.0 (value_cells d.0 fit);
       within = all.within;
-    })
+    })) first.3
 
 pub edit_again : (p q : Place) (e : EditValue) → IsEditAt p e q → judge edit p ≡ Whole e q
-unfolding edit name key
+unfolding edit heading name key
 edit_again p q e h =
     let s1 = sized 1 e.table in
     let s2 = sized 2 e.row in
@@ -149,20 +156,11 @@ edit_again p q e h =
     let e4 = cells_again e.cells [] m3 q fit h.typed.whole.distinct r3 h.within in
     rw (e1, e2, e3, e4) refl
 
--- ---- what was read is no refused edit
+-- ---- an edit of the types is not refused
 
-not_refused : (e : EditValue) → IsEdit e → edit_refusal e ≡ None
+pub not_refused : (e : EditValue) → IsEdit e → edit_refusal e ≡ None
 not_refused e h =
     let some : eqb (length e.cells) 0 ≡ false = ne_eqb (length e.cells) 0 (λ none. omega (arith, h.some)) in
     let few : ltb 64 (length e.cells) ≡ false = le-ltb _ _ h.few in
     let short : ltb 8192 (edit_length e) ≡ false = le-ltb _ _ h.short in
     rw (some, few, h.distinct, short) refl
-
-pub never_refused : (p m1 m2 m3 q : Place) (table row : List ℕ) (count : ℕ) (cs : List Cell) → IsBytes p.rest → HasRoom p
-    → judge name p ≡ Whole table m1 → judge key m1 ≡ Whole row m2 → judge (number 10 1 1 64) m2 ≡ Whole count m3 → judge (cells count []) m3 ≡ Whole cs q
-    → edit_refusal (record { table = table; row = row; cells = cs }) ≡ None
-unfolding edit
-never_refused p m1 m2 m3 q table row count cs fits room h1 h2 h3 h4 =
-    let made : EditValue = record { table = table; row = row; cells = cs } in
-    let read : judge edit p ≡ Whole made q = rw (h1, h2, h3, h4) refl in
-    not_refused made (edit_takes p q made fits room read).typed.whole

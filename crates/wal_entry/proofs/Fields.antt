@@ -6,8 +6,9 @@ use Rattle.byteorder.specs.Endian.{big_bytes}
 use Rattle.rep_types.specs.declared.entry.Entry.{Entry}
 use Rattle.rep_types.specs.declared.entry.EntryKind.{EntryKind}
 use Rattle.rep_types.specs.declared.entry.EntryKind.TheVariants.{Opened, Closed, Write}
-use Rattle.wal_entry.specs.Judging.{Place, Whole, judge}
-use Rattle.wal_entry.specs.Frame.{body, padding, origin_of, of_origin, from_region, after_length}
+use Rattle.wal_entry.specs.declared.decode.frame.Fields.{Fields}
+use Rattle.wal_entry.specs.Judging.{Place, Whole, and_then, judge}
+use Rattle.wal_entry.specs.Frame.{body, padding, origin_of, of_origin, from_region, fields as fields_grammar, entry_of, last, after_length}
 use Rattle.wal_entry.specs.Framed.{IsFramedKind, HasFrame}
 use Rattle.wal_entry.specs.Length.{rounded, body_length, frame_length_of}
 use Rattle.wal_entry.specs.Spelling.{body_spelling, kind_number, origin_peer, origin_cluster, origin_region, origin_seq, padding_spelling}
@@ -139,20 +140,23 @@ fields_of p m1 m2 m3 m4 m5 m6 m7 m8 w q kind marks peer cluster region origin_re
     }
 
 pub fields_take : (p q : Place) (e : Entry) → IsBytes p.rest → p.at ≡ 4 → p.end ≤ 8224 → p.end % 8 ≡ 0 → judge (after_length p.end) p ≡ Whole e q → AreFieldsAt p e q
-unfolding after_length from_region of_origin
+unfolding after_length fields_grammar from_region of_origin last
 fields_take p q e fits start most eighth h =
-    with_number 2 1 (cond (eqb p.end 32) 1 3) 3 _ p e q size_1 fits h (λ kind m1 h1 fits1 t1.
-    with_number 3 1 1 7 _ m1 e q size_1 fits1 t1 (λ marks m2 h2 fits2 t2.
-    with_number 4 1 0 (cond (eqb kind 3) 4 0) _ m2 e q size_1 fits2 t2 (λ peer m3 h3 fits3 t3.
-    with_number 5 1 (cond (eqb peer 0) 0 1) (cond (eqb peer 0) 0 3) _ m3 e q size_1 fits3 t3 (λ cluster m4 h4 fits4 t4.
-    with_number 6 4 1 4096 _ m4 e q size_4 fits4 t4 (λ region m5 h5 fits5 t5.
-    with_number 7 4 (cond (eqb peer 0) 0 1) (cond (eqb peer 0) 0 4096) _ m5 e q size_4 fits5 t5 (λ origin_region m6 h6 fits6 t6.
-    with_number 8 8 1 (2 ^ 64 - 1) _ m6 e q size_8 fits6 t6 (λ seq m7 h7 fits7 t7.
-    with_number 9 8 (cond (eqb peer 0) 0 1) (cond (eqb peer 0) 0 (2 ^ 64 - 1)) _ m7 e q size_8 fits7 t7 (λ origin_seq m8 h8 fits8 t8.
-    with_first _ _ e q t8 (λ what w hw t9.
-    with_first _ _ e q t9 (λ zeros z hz t10.
-    of_whole (λ e q. AreFieldsAt p e q) (record { region = region; seq = seq; kind = what; marks = marks; origin = origin_of peer cluster origin_region origin_seq }) e z q t10
-    (fields_of p m1 m2 m3 m4 m5 m6 m7 m8 w z kind marks peer cluster region origin_region seq origin_seq what start most eighth h1 h2 h3 h4 h5 h6 h7 h8 fits8 hw hz)))))))))))
+    with_first _ _ e q h (λ f m hf t.
+    with_number 2 1 (cond (eqb p.end 32) 1 3) 3 _ p f m size_1 fits hf (λ kind m1 h1 fits1 t1.
+    with_number 3 1 1 7 _ m1 f m size_1 fits1 t1 (λ marks m2 h2 fits2 t2.
+    with_number 4 1 0 (cond (eqb kind 3) 4 0) _ m2 f m size_1 fits2 t2 (λ peer m3 h3 fits3 t3.
+    with_number 5 1 (cond (eqb peer 0) 0 1) (cond (eqb peer 0) 0 3) _ m3 f m size_1 fits3 t3 (λ cluster m4 h4 fits4 t4.
+    with_number 6 4 1 4096 _ m4 f m size_4 fits4 t4 (λ region m5 h5 fits5 t5.
+    with_number 7 4 (cond (eqb peer 0) 0 1) (cond (eqb peer 0) 0 4096) _ m5 f m size_4 fits5 t5 (λ origin_region m6 h6 fits6 t6.
+    with_number 8 8 1 (2 ^ 64 - 1) _ m6 f m size_8 fits6 t6 (λ seq m7 h7 fits7 t7.
+    with_number 9 8 (cond (eqb peer 0) 0 1) (cond (eqb peer 0) 0 (2 ^ 64 - 1)) _ m7 f m size_8 fits7 t7 (λ origin_seq m8 h8 fits8 t8.
+    let read : Fields = record { kind = kind; marks = marks; region = region; seq = seq; origin = origin_of peer cluster origin_region origin_seq } in
+    of_whole (λ f m. and_then (judge (body f.kind) m) (λ what w. judge (last f what) w) ≡ Whole e q → AreFieldsAt p e q) read f m8 m t8 (λ t9.
+    with_first _ _ e q t9 (λ what w hw t10.
+    with_first _ _ e q t10 (λ zeros z hz t11.
+    of_whole (λ e q. AreFieldsAt p e q) (entry_of read what) e z q t11
+    (fields_of p m1 m2 m3 m4 m5 m6 m7 m8 w z kind marks peer cluster region origin_region seq origin_seq what start most eighth h1 h2 h3 h4 h5 h6 h7 h8 fits8 hw hz)))) t)))))))))
 
 -- ---- and back
 
@@ -202,7 +206,7 @@ fields_spelled : (p m1 m2 m3 m4 m5 m6 m7 m8 w q : Place) (kind marks peer cluste
     → IsNumber m7 8 (cond (eqb peer 0) 0 1) (cond (eqb peer 0) 0 (2 ^ 64 - 1)) origin_seq m8
     → judge (body kind) m8 ≡ Whole what w → judge padding w ≡ Whole tt q
     → judge (after_length p.end) p ≡ Whole (record { region = region; seq = seq; kind = what; marks = marks; origin = origin_of peer cluster origin_region origin_seq }) q
-unfolding after_length from_region of_origin
+unfolding after_length fields_grammar from_region of_origin last
 fields_spelled p m1 m2 m3 m4 m5 m6 m7 m8 w q kind marks peer cluster region origin_region seq origin_seq what h1 h2 h3 h4 h5 h6 h7 h8 hw hz =
     let e1 = number_again 2 1 (cond (eqb p.end 32) 1 3) 3 p m1 kind (small kind 3 h1.most (lit< tt)) h1 in
     let e2 = number_again 3 1 1 7 m1 m2 marks (small marks 7 h2.most (lit< tt)) h2 in

@@ -16,7 +16,7 @@ pub and_then_whole : {A B : Type 0} (v : Verdict A) (after : A → Place → Ver
     → (x : A) × (m : Place) × (v ≡ Whole x m) × (after x m ≡ Whole y q)
 and_then_whole (Whole x m) after y q h = (x, m, refl, h)
 and_then_whole (Broken at field) after y q h = absurd (cc)
-and_then_whole Cut after y q h = absurd (cc)
+and_then_whole (Cut until) after y q h = absurd (cc)
 
 -- what follows from the first ones and those that come after, whatever they are
 pub with_first : {A B R : Type 0} (v : Verdict A) (after : A → Place → Verdict B) (y : B) (q : Place) → and_then v after ≡ Whole y q
@@ -29,9 +29,9 @@ pub not_broken : {A : Type 0} (b : Bool) (at field : ℕ) (v : Verdict A) (x : A
 not_broken true at field v x q h = absurd (cc)
 not_broken false at field v x q h = (refl, h)
 
-not_cut : {A : Type 0} (b : Bool) (v : Verdict A) (x : A) (q : Place) → cond b Cut v ≡ Whole x q → (b ≡ false) × (v ≡ Whole x q)
-not_cut true v x q h = absurd (cc)
-not_cut false v x q h = (refl, h)
+not_cut : {A : Type 0} (b : Bool) (until : ℕ) (v : Verdict A) (x : A) (q : Place) → cond b (Cut until) v ≡ Whole x q → (b ≡ false) × (v ≡ Whole x q)
+not_cut true until v x q h = absurd (cc)
+not_cut false until v x q h = (refl, h)
 
 allowed_whole : {A : Type 0} (b : Bool) (at field : ℕ) (x y : A) (p q : Place) → cond b (Whole x p) (Broken at field) ≡ Whole y q → (b ≡ true) × (◌≡◌ {A = Verdict A} (Whole x p) (Whole y q))
 allowed_whole true at field x y p q h = (refl, h)
@@ -55,7 +55,7 @@ Stands-standing : (field size : ℕ) (p q : Place) (bytes : List ℕ) → standi
 unfolding standing
 Stands-standing field size p q bytes h =
     let first = not_broken _ _ _ _ _ _ h in
-    let second = not_cut _ _ _ _ first.1 in
+    let second = not_cut _ _ _ _ _ first.1 in
     let room : p.at + size ≤ p.end = ltb-false _ _ first.0 in
     let long : size ≤ length p.rest = ltb-false _ _ second.0 in
     of_whole (λ bytes q. Stands p size bytes q) (take size p.rest) bytes (moved size p) q second.1 (record {

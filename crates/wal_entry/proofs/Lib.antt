@@ -11,5 +11,6 @@ pub mod Parts
 pub mod Pieces
 pub mod Places
 pub mod Pushes
+pub mod Resumed
 pub mod Texts
 pub mod Verdicts

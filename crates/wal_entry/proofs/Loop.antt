@@ -8,9 +8,9 @@ use Rattle.wal_entry.specs.Frame.{cell, cells}
 use Rattle.wal_entry.specs.Steps.{Stops}
 
 -- a step that stops, stops what begins with it
-Stops-then : {X Y : Type 0} (e : Stop) (v : Verdict X) (after : X → Place → Verdict Y) → Stops e v → Stops e (and_then v after)
+pub Stops-then : {X Y : Type 0} (e : Stop) (v : Verdict X) (after : X → Place → Verdict Y) → Stops e v → Stops e (and_then v after)
 Stops-then (stop.Bad at rule) v after h = rw h refl
-Stops-then stop.Short v after h = rw h refl
+Stops-then (stop.Short until) v after h = rw h refl
 Stops-then stop.Memory v after h = tt
 
 pub one_more : (count i : ℕ) (earlier : List Cell) (p q : Place) (c : Cell) → i < count → judge (cell earlier) p ≡ Whole c q

@@ -13,7 +13,7 @@ use Rattle.rep_types.specs.declared.entry.EntryKind.TheVariants.{Opened, Closed,
 use Rattle.rep_types.specs.declared.memory.Memory.{Memory}
 use Rattle.wal_entry.specs.declared.decode.Decoded.{Decoded}
 use Rattle.wal_entry.specs.declared.decode.Decoded.TheVariants.{Frame, Bad, Short}
-use Rattle.wal_entry.specs.Decoded.{Answers, BeginsWithFrame, IfFrame}
+use Rattle.wal_entry.specs.Decoded.{Answers, BeginsWithFrame, IfFrame, IsFrame}
 use Rattle.wal_entry.specs.Judging.{Place, Verdict, Whole, judge}
 use Rattle.wal_entry.specs.Frame.{is_frame_length, frame_length, verdict}
 use Rattle.wal_entry.specs.Framed.{IsTypedKind, HasFrame}
@@ -152,11 +152,10 @@ begins_with bytes e q size h at =
 pub whole_begins : (bytes : List ℕ) (e : Entry) (q : Place) → IsBytes bytes → verdict bytes ≡ Whole e q → BeginsWithFrame bytes e q.at
 whole_begins bytes e q fits h = begins_with bytes e q q.at (verdict_takes bytes e q fits h) refl
 
-pub answer_begins : (bytes : List ℕ) (r : Result Decoded Memory) → IsBytes bytes → Answers r (verdict bytes) → IfFrame r (BeginsWithFrame bytes)
-answer_begins bytes (Ok (Frame e size)) fits h = begins_with bytes e h.0 size (verdict_takes bytes e h.0 fits h.1) h.2
-answer_begins bytes (Ok (Bad at rule)) fits h = tt
-answer_begins bytes (Ok Short) fits h = tt
-answer_begins bytes (Err memory) fits h = tt
+pub frame_begins : (bytes : List ℕ) (d : Decoded) → IsBytes bytes → IsFrame d (verdict bytes) → IfFrame (Ok d) (BeginsWithFrame bytes)
+frame_begins bytes (Frame e size) fits h = begins_with bytes e h.0 size (verdict_takes bytes e h.0 fits h.1) h.2
+frame_begins bytes (Bad at rule) fits h = absurd h
+frame_begins bytes Short fits h = absurd h
 
 answer_is : (r : Result Decoded Memory) (e : Entry) (q : Place) → Answers r (Whole e q) → IfOk r (λ decoded. decoded ≡ Frame e q.at)
 answer_is (Ok (Frame f size)) e q h =
@@ -165,7 +164,7 @@ answer_is (Ok (Frame f size)) e q h =
     let at : size ≡ q.at = sym h.2 ∙ ap (λ (p : Place). p.at) place in
     rw (entry, at) refl
 answer_is (Ok (Bad at rule)) e q h = absurd (cc)
-answer_is (Ok Short) e q h = absurd (cc)
+answer_is (Ok Short) e q h = absurd (cc (h.1))
 answer_is (Err memory) e q h = tt
 
 pub answer_again : (bytes : List ℕ) (r : Result Decoded Memory) (e : Entry) (rest : List ℕ) → Answers r (verdict bytes) → HasFrame e → bytes ≡ spelling e ++ rest

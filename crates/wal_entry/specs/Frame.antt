@@ -15,6 +15,8 @@ use Rattle.rep_types.specs.declared.entry.EntryKind.TheVariants.{Opened, Closed,
 use Rattle.rep_types.specs.declared.entry.Origin.{Origin}
 use Rattle.rep_types.specs.declared.ids.Cluster.{Cluster}
 use Rattle.rep_types.specs.declared.ids.Cluster.TheVariants.{A, B, C}
+use Rattle.wal_entry.specs.declared.decode.edit.Heading.{Heading}
+use Rattle.wal_entry.specs.declared.decode.frame.Fields.{Fields}
 use Rattle.wal_entry.specs.Judging.{Grammar, Verdict, Item, ToEnd, Known, ◌>>=◌, choose, judge, and_then}
 
 -- a letter, a digit, `_` or `.`
@@ -80,13 +82,19 @@ cells (suc more) earlier = do
   next ← cell earlier
   cells more (earlier ++ next ∷ [])
 
-unfoldable pub edit : Grammar EditValue
-edit = do
+-- what stands before the cells of an edit
+unfoldable pub heading : Grammar Heading
+heading = do
   table ← name
   row ← key
   count ← number 10 1 1 64
-  all ← cells count []
-  Known (record { table = table; row = row; cells = all })
+  Known (record { table = table; row = row; count = count })
+
+unfoldable pub edit : Grammar EditValue
+edit = do
+  head ← heading
+  all ← cells head.count []
+  Known (record { table = head.table; row = head.row; cells = all })
 
 -- kind 1 is an open marker, 2 a close marker, 3 a write
 unfoldable pub body : ℕ → Grammar EntryKind
@@ -110,25 +118,39 @@ origin_of peer cluster region seq =
 unfoldable pub of_origin : ℕ → ℕ → ℕ → ℕ → Grammar ℕ
 of_origin peer field size most = number field size (if peer == 0 then 0 else 1) (if peer == 0 then 0 else most)
 
--- the fields from the region on, the body and the padding
-unfoldable pub from_region : ℕ → ℕ → ℕ → ℕ → Grammar Entry
+-- the fields from the region on
+unfoldable pub from_region : ℕ → ℕ → ℕ → ℕ → Grammar Fields
 from_region kind marks peer cluster = do
   region ← number 6 4 1 4096
   origin_region ← of_origin peer 7 4 4096
   seq ← number 8 8 1 (2 ^ 64 - 1)
   origin_seq ← of_origin peer 9 8 (2 ^ 64 - 1)
-  what ← body kind
-  zeros ← padding
-  Known (record { region = region; seq = seq; kind = what; marks = marks; origin = origin_of peer cluster origin_region origin_seq })
+  Known (record { kind = kind; marks = marks; region = region; seq = seq; origin = origin_of peer cluster origin_region origin_seq })
 
--- All after the length. A frame of 32 bytes may be a marker's, which has no origin; each longer one is a write's.
-unfoldable pub after_length : ℕ → Grammar Entry
-after_length length = do
+-- The fields after the length. A frame of 32 bytes may be a marker's, which has no origin; each longer one is a write's.
+unfoldable pub fields : ℕ → Grammar Fields
+fields length = do
   kind ← number 2 1 (if length == 32 then 1 else 3) 3
   marks ← number 3 1 1 7
   peer ← number 4 1 0 (if kind == 3 then 4 else 0)
   cluster ← of_origin peer 5 1 3
   from_region kind marks peer cluster
+
+-- the entry of these fields and a body
+abbrev pub entry_of : Fields → EntryKind → Entry
+entry_of f what = record { region = f.region; seq = f.seq; kind = what; marks = f.marks; origin = f.origin }
+
+-- the padding behind a body, and the entry of all
+unfoldable pub last : Fields → EntryKind → Grammar Entry
+last f what = do
+  zeros ← padding
+  Known (entry_of f what)
+
+unfoldable pub after_length : ℕ → Grammar Entry
+after_length length = do
+  f ← fields length
+  what ← body f.kind
+  last f what
 
 -- a multiple of 8 from 32 to 8,224
 abbrev pub is_frame_length : ℕ → Bool

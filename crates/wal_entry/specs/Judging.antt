@@ -1,5 +1,5 @@
 -- Items in order: when each is judged, and when it is broken.
-use Rattle.std.specs.Prelude.{ℕ, ◌+◌, ◌-◌, List, length, take, drop, Bool, true, false, nat_lt, if◌then◌else◌}
+use Rattle.std.specs.Prelude.{ℕ, ◌≡◌, ◌+◌, ◌-◌, List, length, take, drop, Bool, true, false, nat_lt, if◌then◌else◌}
 
 -- a place in a frame: how far it is from the first byte, where the frame ends, and the bytes from the place on
 pub record Place : Type 0 where
@@ -16,11 +16,15 @@ pub data Grammar : Type 0 → Type 1 where
   Then : {A B : Type 0} → Grammar A → (A → Grammar B) → Grammar B
 
 -- All items stand whole and none is broken: their value, and the place after them. Or the first broken item: the place
--- of its first byte, and its field. Or the bytes end before.
+-- of its first byte, and its field. Or the bytes end in an item: where that would end.
 pub data Verdict (A : Type 0) : Type 0 where
   Whole : A → Place → Verdict A
   Broken : (at field : ℕ) → Verdict A
-  Cut : Verdict A
+  Cut : (until : ℕ) → Verdict A
+
+-- the bytes end before the items do
+abbrev pub IsCut : {A : Type 0} → Verdict A → Type 0
+IsCut v = (until : ℕ) × (v ≡ Cut until)
 
 infixl 10 ◌>>=◌
 abbrev pub ◌>>=◌ : {A B : Type 0} → Grammar A → (A → Grammar B) → Grammar B
@@ -35,7 +39,7 @@ choose false first second = second
 abbrev pub and_then : {A B : Type 0} → Verdict A → (A → Place → Verdict B) → Verdict B
 and_then (Whole x p) after = after x p
 and_then (Broken at field) after = Broken at field
-and_then Cut after = Cut
+and_then (Cut until) after = Cut until
 
 -- the place after so many bytes
 abbrev pub moved : ℕ → Place → Place
@@ -45,7 +49,7 @@ moved size p = record p { at = p.at + size; rest = drop size p.rest }
 unfoldable pub standing : ℕ → ℕ → Place → Verdict (List ℕ)
 standing field size p =
     if nat_lt p.end (p.at + size) then Broken p.at field else
-    (if nat_lt (length p.rest) size then Cut else Whole (take size p.rest) (moved size p))
+    (if nat_lt (length p.rest) size then Cut (p.at + size) else Whole (take size p.rest) (moved size p))
 
 -- an item that stands whole is broken where its bytes aren't allowed
 abbrev pub item : ℕ → ℕ → (List ℕ → Bool) → Place → Verdict (List ℕ)

@@ -16,5 +16,8 @@ body_length Closed = 0
 body_length (Write e) = edit_length e
 
 -- 32 bytes of fields, the edit of a write, and the padding
+abbrev pub frame_length : EntryKind → ℕ
+frame_length kind = 32 + rounded (body_length kind)
+
 abbrev pub frame_length_of : Entry → ℕ
-frame_length_of e = 32 + rounded (body_length e.kind)
+frame_length_of e = frame_length e.kind

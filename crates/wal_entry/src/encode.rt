@@ -1,6 +1,6 @@
 ghost use Rattle.std.specs.Prelude.{◌≡◌, ◌≤◌, ◌+◌, ◌++◌, length, take, replicate, OnOk, OnErr};
 ghost use Rattle.wal_entry.specs.Framed.{IsFramed};
-ghost use Rattle.wal_entry.specs.Length.{rounded, body_length, frame_length_of};
+ghost use Rattle.wal_entry.specs.Length.{rounded, body_length, frame_length, frame_length_of};
 ghost use Rattle.wal_entry.specs.Spelling.{sized, cell_kind_spelling, cell_spelling, cells_spelling, edit_spelling, body_spelling, kind_number, cluster_number, origin_peer, origin_cluster, origin_region, origin_seq, fields_spelling, padding_spelling, spelling};
 
 use rep_types::{Bytes, Cell, CellKind, Cluster, Edit, Entry, EntryKind, Memory, Origin};
@@ -80,13 +80,22 @@ fn body_length(kind: &EntryKind) -> u32
     }
 }
 
+/// The length of the frame of an entry of this kind in bytes: a multiple of 8, from 32 to 8,224.
+pub fn kind_length(kind: &EntryKind) -> u32
+    ensures value { result ≡ frame_length kind.now }
+    ensures least { 32 ≤ result }
+    ensures most { result ≤ 8224 }
+{
+    32 + (body_length(kind) + 7) / 8 * 8
+}
+
 /// The length of the entry's frame in bytes: a multiple of 8, from 32 to 8,224.
 pub fn entry_length(entry: &Entry) -> u32
     ensures value { result ≡ frame_length_of entry.now }
     ensures least { 32 ≤ result }
     ensures most { result ≤ 8224 }
 {
-    32 + (body_length(&entry.kind) + 7) / 8 * 8
+    kind_length(&entry.kind)
 }
 
 fn push_body(out: &mut Bytes, kind: &EntryKind) -> Result<(), Memory>

@@ -33,8 +33,8 @@ mod decode;
 mod encode;
 mod laws;
 
-pub use decode::{Decoded, decode_frame, frame_length};
-pub use encode::{encode_frame, entry_length};
+pub use decode::{Decoded, Decoder, decode_frame, frame_length};
+pub use encode::{encode_frame, entry_length, kind_length};
 pub use laws::{pieces_agree, spellings_are_apart};
 
 #[cfg(test)]

@@ -40,10 +40,10 @@ no_frame : (r : Result Next ReaderError) (p : Place) (v : Verdict Entry) → Unl
 no_frame (Ok (next.Entry e)) p v exact = tt
 no_frame (Ok next.Short) p (Whole e q) exact = absurd (cc)
 no_frame (Ok next.Short) p (Broken at field) exact = tt
-no_frame (Ok next.Short) p Cut exact = tt
+no_frame (Ok next.Short) p (Cut until) exact = tt
 no_frame (Err (BadFrame log at rule)) p (Whole e q) exact = absurd (cc)
 no_frame (Err (BadFrame log at rule)) p (Broken from field) exact = tt
-no_frame (Err (BadFrame log at rule)) p Cut exact = tt
+no_frame (Err (BadFrame log at rule)) p (Cut until) exact = tt
 no_frame (Err Memory) p v exact = tt
 
 pub ended : (r : Result Next ReaderError) (old new : Reader) → UnlessMemory r (answer old.place (verdict old.left)) → new ≡ after r old → IfEnded r (EndsFrames new.left)

@@ -7,7 +7,7 @@ use Rattle.rep_types.specs.declared.entry.Entry.{Entry}
 use Rattle.rep_types.specs.declared.state.Place.{Place}
 use Rattle.wal_entry.specs.Frame.{frame_length, verdict}
 use Rattle.wal_entry.specs.Framed.{HasFrame}
-use Rattle.wal_entry.specs.Judging.{Whole, Cut, standing}
+use Rattle.wal_entry.specs.Judging.{Whole, IsCut, standing}
 use Rattle.wal_entry.specs.Length.{frame_length_of}
 use Rattle.wal_entry.specs.Spelling.{spelling}
 use Rattle.wal_entry.proofs.Verdicts.{verdict_again, spellings_apart, length-spelling, after_frame}
@@ -97,6 +97,6 @@ all_given old new calls entries rest h all ends short =
     let later = so_far old new calls entries rest h all ends in
     no_more (given calls) entries later.0 new.left rest later.1 later.2 short
 
-pub nothing_is_cut : verdict [] ≡ Cut
+pub nothing_is_cut : IsCut (verdict [])
 unfolding verdict frame_length standing
-nothing_is_cut = refl
+nothing_is_cut = (4, refl)

@@ -13,18 +13,18 @@ use Rattle.wal_entry.proofs.Verdicts.{length-spelling}
 abbrev IsWithin : {A : Type 0} → Place → Verdict A → Type 0
 IsWithin p (Whole x q) = q.at + length q.rest ≤ p.at + length p.rest
 IsWithin p (Broken at field) = at ≤ p.at + length p.rest
-IsWithin p Cut = Unit {0}
+IsWithin p (Cut until) = Unit {0}
 
 within_from : {A : Type 0} (p q : Place) (v : Verdict A) → q.at + length q.rest ≤ p.at + length p.rest → IsWithin q v → IsWithin p v
 within_from p q (Whole x r) le h = omega (arith, le, h)
 within_from p q (Broken at field) le h = omega (arith, le, h)
-within_from p q Cut le h = tt
+within_from p q (Cut until) le h = tt
 
 and_then_within : {A B : Type 0} (p : Place) (v : Verdict A) (f : A → Place → Verdict B) → IsWithin p v
     → ((x : A) (q : Place) → q.at + length q.rest ≤ p.at + length p.rest → IsWithin p (f x q)) → IsWithin p (and_then v f)
 and_then_within p (Whole x q) f h k = k x q h
 and_then_within p (Broken at field) f h k = h
-and_then_within p Cut f h k = tt
+and_then_within p (Cut until) f h k = tt
 
 chosen_within : {A : Type 0} (p : Place) (b : Bool) (v w : Verdict A) → IsWithin p v → IsWithin p w → IsWithin p (cond b v w)
 chosen_within p true v w h k = h

@@ -43,7 +43,7 @@ pub record AreFrames (bytes : List ℕ) (entries : List Entry) (rest : List ℕ)
 abbrev pub IsNoFrame : Verdict Entry → Type 0
 IsNoFrame (Whole entry place) = ⊥
 IsNoFrame (Broken at rule) = Unit {0}
-IsNoFrame Cut = Unit {0}
+IsNoFrame (Cut until) = Unit {0}
 
 -- no frame begins the bytes: they are short or bad
 abbrev pub EndsFrames : List ℕ → Type 0

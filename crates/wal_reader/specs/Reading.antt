@@ -15,7 +15,7 @@ use Rattle.wal_reader.specs.declared.reader.Next.TheVariants as next
 abbrev pub answer : Place → Verdict Entry → Result Next ReaderError
 answer place (Whole entry rest) = Ok (next.Entry entry)
 answer place (Broken at rule) = Err (BadFrame place.log (place.offset + at) rule)
-answer place Cut = Ok next.Short
+answer place (Cut until) = Ok next.Short
 
 -- the answer is the one that is due, unless memory ran out
 abbrev pub UnlessMemory : Result Next ReaderError → Result Next ReaderError → Type 0

@@ -2,7 +2,7 @@ ghost use Rattle.std.specs.Prelude.{◌≡◌, ◌+◌, [], ◌++◌, ℕ, List,
 ghost use Rattle.std.specs.List.{flat_map};
 ghost use Rattle.rep_types.specs.declared.entry.Entry.{Entry};
 ghost use Rattle.wal_entry.specs.Frame.{verdict};
-ghost use Rattle.wal_entry.specs.Judging.{Cut};
+ghost use Rattle.wal_entry.specs.Judging.{IsCut};
 ghost use Rattle.wal_entry.specs.Spelling.{spelling};
 ghost use Rattle.wal_reader.specs.Calls.{Call, Calls, pieces, given, AreFrames, EndsFrames};
 ghost use Rattle.wal_reader.specs.Reader.{Reader, fed};
@@ -29,5 +29,5 @@ pub fn any_cutting()
         → Calls old calls new → AreFrames (old.left ++ pieces calls) entries rest → EndsFrames rest
         → EndsFrames new.left → (given calls ≡ entries) × (new.left ≡ rest) }
     // Where nothing is left, it is short.
-    ensures none { verdict [] ≡ Cut }
+    ensures none { IsCut (verdict []) }
 {}

@@ -15,7 +15,7 @@ use bytes::BytesMut;
 use rep_types::{Entry, Memory, Place};
 use std::alloc::Global;
 use std::marker::Model;
-use wal_entry::{Decoded, decode_frame};
+use wal_entry::{Decoded, Decoder};
 
 /// What a reader gives next.
 #[derive(Drop)]
@@ -32,11 +32,13 @@ struct Fault {
     rule: u8,
 }
 
-/// Reads a server's logs one after another, from the bytes that it is fed.
+/// Reads a server's logs one after another, from the bytes that it is fed. It keeps what its decoder
+/// judged of a frame that is cut off.
 #[derive(Drop)]
 pub struct LogReader {
     place: Place,
     left: BytesMut,
+    decoder: Decoder,
     bad: Option<Fault>,
 }
 
@@ -44,6 +46,7 @@ impl Model for LogReader {
     ghost use Rattle.std.specs.Prelude.{◌≡◌, ◌+◌, ◌^◌, ◌<◌, length, is_some, IfSome};
     ghost use Rattle.wal_entry.specs.Frame.{verdict};
     ghost use Rattle.wal_entry.specs.Judging.{Broken};
+    ghost use Rattle.wal_entry.specs.Resumed.{HasSeen};
     ghost use Rattle.wal_reader.specs.Reader.{Reader};
 
     ghost Value = { Reader };
@@ -51,6 +54,7 @@ impl Model for LogReader {
     ghost view = { λ r. record { place = r.place; left = r.left.items; told = is_some r.bad } };
 
     ghost invariant = { λ r. (r.place.offset + length r.left.items < 2 ^ 64)
+        × HasSeen r.decoder r.left.items
         × IfSome r.bad (λ bad. verdict r.left.items ≡ Broken bad.at bad.rule) };
 }
 
@@ -73,6 +77,7 @@ impl LogReader {
         LogReader {
             place: Place { log, offset: from },
             left: BytesMut::new(alloc),
+            decoder: Decoder::new(),
             bad: None,
         }
     }
@@ -100,7 +105,7 @@ impl LogReader {
             return Err(bad_frame(place, bad));
         }
         let alloc = *self.left.allocator();
-        match decode_frame(alloc, self.left.as_slice())? {
+        match self.decoder.decode(alloc, self.left.as_slice())? {
             Decoded::Frame { entry, length } => {
                 self.left.advance(length as usize);
                 self.place.offset += u64::from(length);
@@ -154,6 +159,7 @@ impl LogReader {
             offset: 0,
         };
         self.left.clear();
+        self.decoder = Decoder::new();
         self.bad = None;
     }
 }

@@ -70,6 +70,22 @@ fn a_log_cut_at_each_byte(rt: HostRuntime) -> Result<(), Fail> {
     Ok(())
 }
 
+#[test]
+fn a_frame_cut_twice(rt: HostRuntime) -> Result<(), Fail> {
+    for first in 33..88 {
+        for second in first..88 {
+            let mut reader = LogReader::new(rt.alloc(), 3, 1000);
+            reader.feed(&LOG[..first])?;
+            assert_eq!(rt; four(&mut reader)?, [Some(1), None, None, None]);
+            reader.feed(&LOG[first..second])?;
+            assert_eq!(rt; four(&mut reader)?, [None; 4], "from {first} to {second}");
+            reader.feed(&LOG[second..])?;
+            assert_eq!(rt; four(&mut reader)?, [Some(2), Some(3), None, None]);
+        }
+    }
+    Ok(())
+}
+
 // fed with the log from offset 1,000 on, with another byte at a place
 fn fed_changed(alloc: Global, place: usize, byte: u8) -> Result<LogReader, Fail>
     ensures { IfOk result (λ reader. end_of reader ≡ 1120) }

@@ -19,7 +19,8 @@ pub struct Cursor<'a> {
 #[derive(Drop)]
 pub enum Stop {
     Bad { at: u32, rule: u8 },
-    Short,
+    /// The bytes end in an item, which would end there.
+    Short { until: u32 },
     Memory,
 }
 

@@ -1,13 +1,20 @@
-ghost use Rattle.std.specs.Prelude.{◌≡◌, ◌≤◌, []};
 ghost use Rattle.wal_entry.specs.Judging.{judge};
-ghost use Rattle.wal_entry.specs.Frame.{cell_kind, cell, cells, edit};
+ghost use Rattle.wal_entry.specs.Frame.{cell_kind, cell, heading};
 ghost use Rattle.wal_entry.specs.Steps.{place, Reads};
 
 use super::cursor::{Cursor, Stop};
 use super::item::number;
 use super::text::{key_of, name_of, qualifier_of, value_of};
-use rep_types::{Cell, CellKind, Cells, Edit, Items};
+use rep_types::{Cell, CellKind, Key, Name};
 use std::alloc::Global;
+
+/// The table and row of an edit, and the number of its cells.
+#[derive(Drop)]
+pub struct Heading {
+    pub table: Name,
+    pub row: Key,
+    pub count: u64,
+}
 
 #[tactic(auto, unfolding(crate::specs::Frame::cell_kind))]
 fn cell_kind_of<'a>(alloc: Global, here: Cursor<'a>) -> Result<(CellKind, Cursor<'a>), Stop>
@@ -23,7 +30,7 @@ fn cell_kind_of<'a>(alloc: Global, here: Cursor<'a>) -> Result<(CellKind, Cursor
 }
 
 #[tactic(auto, unfolding(crate::specs::Frame::cell))]
-fn cell_of<'a>(
+pub fn cell_of<'a>(
     alloc: Global,
     here: Cursor<'a>,
     earlier: &[Cell],
@@ -43,31 +50,13 @@ fn cell_of<'a>(
     Ok((cell, next))
 }
 
-// So many cells.
-fn cells_of<'a>(alloc: Global, here: Cursor<'a>, count: u64) -> Result<(Cells, Cursor<'a>), Stop>
-    ensures { Reads (λ x. x) result (judge (cells count []) (place here.entry)) }
-{
-    let mut cells = Items::new(alloc);
-    let mut next = here;
-    for _ in 0..count {
-        let (cell, after) = cell_of(alloc, next, cells.as_slice())?;
-        cells.push(cell)?;
-        next = after;
-    }
-    Ok((cells, next))
-}
-
-#[tactic(auto, unfolding(crate::specs::Frame::edit))]
-pub fn edit_of<'a>(alloc: Global, here: Cursor<'a>) -> Result<(Edit, Cursor<'a>), Stop>
-    requires { 32 ≤ here.at }
-    ensures { Reads (λ x. x) result (judge edit (place here.entry)) }
+// What stands before the cells of an edit.
+#[tactic(auto, unfolding(crate::specs::Frame::heading))]
+pub fn heading_of<'a>(alloc: Global, here: Cursor<'a>) -> Result<(Heading, Cursor<'a>), Stop>
+    ensures { Reads (λ x. x) result (judge heading (place here.entry)) }
 {
     let (table, next) = name_of(alloc, here)?;
     let (row, next) = key_of(alloc, next)?;
     let (count, next) = number(next, 10, 1, 1, 64)?;
-    let (cells, next) = cells_of(alloc, next, count)?;
-    match Edit::new(table, row, cells) {
-        Ok(edit) => Ok((edit, next)),
-        Err(_) => unreachable!(),
-    }
+    Ok((Heading { table, row, count }, next))
 }

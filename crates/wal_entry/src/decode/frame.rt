@@ -1,15 +1,23 @@
 ghost use Rattle.std.specs.Prelude.{◌≡◌, ◌≤◌, ◌+◌, ◌==◌, IfOk};
 ghost use Rattle.std.specs.List.{list_all};
 ghost use Rattle.wal_entry.specs.Judging.{judge};
-ghost use Rattle.wal_entry.specs.Frame.{body, padding, cluster_of, origin_of, of_origin, from_region, after_length, frame_length, verdict};
+ghost use Rattle.wal_entry.specs.Frame.{padding, cluster_of, origin_of, of_origin, from_region, fields, entry_of, frame_length};
 ghost use Rattle.wal_entry.specs.Steps.{place, Reads};
 
 use super::cursor::{Cursor, Stop};
-use super::edit::edit_of;
 use super::item::{item, number};
 use byteorder::{BigEndian, ByteOrder};
 use rep_types::{Cluster, Entry, EntryId, EntryKind, Origin, PeerId, RegionId};
-use std::alloc::Global;
+
+/// The fields after the length.
+#[derive(Clone, Copy)]
+pub struct Fields {
+    pub kind: u64,
+    pub marks: u8,
+    pub region: RegionId,
+    pub seq: u64,
+    pub origin: Option<Origin>,
+}
 
 fn is_zero(bytes: &[u8]) -> bool
     ensures { result ≡ list_all (λ b. b == 0) bytes.now }
@@ -17,23 +25,8 @@ fn is_zero(bytes: &[u8]) -> bool
     bytes.iter().all(|b| *b == 0)
 }
 
-#[tactic(auto, unfolding(crate::specs::Frame::body))]
-fn body_of<'a>(alloc: Global, here: Cursor<'a>, kind: u64) -> Result<(EntryKind, Cursor<'a>), Stop>
-    requires { 32 ≤ here.at }
-    ensures { Reads (λ x. x) result (judge (body kind) (place here.entry)) }
-{
-    match kind {
-        1 => Ok((EntryKind::Opened, here)),
-        2 => Ok((EntryKind::Closed, here)),
-        _ => {
-            let (edit, next) = edit_of(alloc, here)?;
-            Ok((EntryKind::Write(edit), next))
-        }
-    }
-}
-
 #[tactic(auto, unfolding(crate::specs::Frame::padding))]
-fn padding_of<'a>(here: Cursor<'a>) -> Result<((), Cursor<'a>), Stop>
+pub fn padding_of<'a>(here: Cursor<'a>) -> Result<((), Cursor<'a>), Stop>
     ensures { Reads (λ x. x) result (judge padding (place here.entry)) }
 {
     let size = here.end - here.at;
@@ -81,6 +74,19 @@ fn origin_of(peer: u64, cluster: u64, region: u64, seq: u64) -> Option<Origin>
     Some(Origin { peer, entry })
 }
 
+/// The entry of these fields and a body.
+pub fn entry_of(fields: Fields, kind: EntryKind) -> Entry
+    ensures { result ≡ entry_of fields kind }
+{
+    Entry {
+        region: fields.region,
+        seq: fields.seq,
+        kind,
+        marks: fields.marks,
+        origin: fields.origin,
+    }
+}
+
 // A part of an origin, which is 0 exactly where the peer is.
 #[tactic(auto, unfolding(crate::specs::Frame::of_origin))]
 fn of_origin<'a>(
@@ -104,17 +110,15 @@ fn of_origin<'a>(
     }
 }
 
-// The fields from the region on, the body and the padding.
+// The fields from the region on.
 #[tactic(auto, unfolding(crate::specs::Frame::from_region))]
 fn from_region<'a>(
-    alloc: Global,
     here: Cursor<'a>,
     kind: u64,
     marks: u8,
     peer: u64,
     cluster: u64,
-) -> Result<(Entry, Cursor<'a>), Stop>
-    requires start { here.at ≡ 8 }
+) -> Result<(Fields, Cursor<'a>), Stop>
     requires peer { peer ≤ 4 }
     ensures { Reads (λ x. x) result (judge (from_region kind marks peer cluster) (place here.entry)) }
 {
@@ -122,23 +126,20 @@ fn from_region<'a>(
     let (origin_region, next) = of_origin(next, peer, 7, 4, 4096)?;
     let (seq, next) = number(next, 8, 8, 1, u64::MAX)?;
     let (origin_seq, next) = of_origin(next, peer, 9, 8, u64::MAX)?;
-    let (body, next) = body_of(alloc, next, kind)?;
-    let ((), next) = padding_of(next)?;
-    let entry = Entry {
+    let fields = Fields {
+        kind,
+        marks,
         region: RegionId::new(region as u32).unwrap(),
         seq,
-        kind: body,
-        marks,
         origin: origin_of(peer, cluster, origin_region, origin_seq),
     };
-    Ok((entry, next))
+    Ok((fields, next))
 }
 
-// All after the length.
-#[tactic(auto, unfolding(crate::specs::Frame::after_length))]
-fn after_length<'a>(alloc: Global, here: Cursor<'a>) -> Result<(Entry, Cursor<'a>), Stop>
-    requires { here.at ≡ 4 }
-    ensures { Reads (λ x. x) result (judge (after_length here.entry.end) (place here.entry)) }
+// The fields after the length.
+#[tactic(auto, unfolding(crate::specs::Frame::fields))]
+pub fn fields_of<'a>(here: Cursor<'a>) -> Result<(Fields, Cursor<'a>), Stop>
+    ensures { Reads (λ x. x) result (judge (fields here.entry.end) (place here.entry)) }
 {
     let least = if here.end == 32 { 1 } else { 3 };
     let (kind, next) = number(here, 2, 1, least, 3)?;
@@ -146,11 +147,11 @@ fn after_length<'a>(alloc: Global, here: Cursor<'a>) -> Result<(Entry, Cursor<'a
     let most = if kind == 3 { 4 } else { 0 };
     let (peer, next) = number(next, 4, 1, 0, most)?;
     let (cluster, next) = of_origin(next, peer, 5, 1, 3)?;
-    from_region(alloc, next, kind, marks as u8, peer, cluster)
+    from_region(next, kind, marks as u8, peer, cluster)
 }
 
 #[tactic(auto, unfolding(crate::specs::Frame::frame_length))]
-fn frame_length_at<'a>(here: Cursor<'a>) -> Result<(u32, Cursor<'a>), Stop>
+pub fn frame_length_at<'a>(here: Cursor<'a>) -> Result<(u32, Cursor<'a>), Stop>
     ensures reads { Reads (λ n. n) result (judge frame_length (place here.entry)) }
     ensures most { IfOk result (λ x. x.0 ≤ 8224) }
     ensures least { IfOk result (λ x. 32 ≤ x.0) }
@@ -166,23 +167,4 @@ fn frame_length_at<'a>(here: Cursor<'a>) -> Result<(u32, Cursor<'a>), Stop>
             rule: 1,
         })
     }
-}
-
-// The entry of the frame that the bytes begin with.
-#[tactic(auto, unfolding(crate::specs::Frame::verdict))]
-pub fn frame_of<'a>(alloc: Global, bytes: &'a [u8]) -> Result<(Entry, Cursor<'a>), Stop>
-    ensures { Reads (λ x. x) result (verdict bytes.now) }
-{
-    let start = Cursor {
-        at: 0,
-        end: 8224,
-        rest: bytes,
-    };
-    let (end, next) = frame_length_at(start)?;
-    let fields = Cursor {
-        at: next.at,
-        end,
-        rest: next.rest,
-    };
-    after_length(alloc, fields)
 }

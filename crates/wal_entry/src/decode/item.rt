@@ -22,7 +22,7 @@ pub fn item<'a>(here: Cursor<'a>, rule: u8, size: u32) -> Result<(&'a [u8], Curs
     }
     let size = size as usize;
     if here.rest.len() < size {
-        return Err(Stop::Short);
+        return Err(Stop::Short { until: at });
     }
     let (bytes, rest) = here.rest.split_at(size);
     Ok((

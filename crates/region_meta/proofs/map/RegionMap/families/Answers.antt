@@ -4,4 +4,4 @@ use Rattle.region_meta.proofs.map.RegionMap.families.Goals as goal
 
 pub returns : goal.returns
 returns c =
-    rw (← c.self.view_is, ← c.as_str.ensures) (c.get.ensures.value ∙ listed-found c.self.inside.names.entries c.as_str.result.now)
+    rw (← c.self.view_is, ← c.as_str.ensures.text) (c.get.ensures.value ∙ listed-found c.self.inside.names.entries c.as_str.result.now)

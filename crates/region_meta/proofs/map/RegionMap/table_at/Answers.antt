@@ -8,10 +8,10 @@ use Rattle.region_meta.proofs.map.RegionMap.table_at.Goals as goal
 
 pub returns-clause-at : goal.returns-clause-at
 returns-clause-at c =
-    rw (← c.self.view_is, ← c.as_str.ensures) (c.get_index_of.ensures.index ∙ listed-place c.self.inside.names.entries c.as_str.result.now)
+    rw (← c.self.view_is, ← c.as_str.ensures.text) (c.get_index_of.ensures.index ∙ listed-place c.self.inside.names.entries c.as_str.result.now)
 
 pub returns-clause-found : goal.returns-clause-found
 returns-clause-found c =
-    rw (← c.self.view_is, ← c.as_str.ensures)
+    rw (← c.self.view_is, ← c.as_str.ensures.text)
     (ap is_some (c.get_index_of.ensures.index ∙ listed-place c.self.inside.names.entries c.as_str.result.now)
     ∙ sym (position-found (is_named c.as_str.result.now) (listed c.self.inside.names.entries)))
