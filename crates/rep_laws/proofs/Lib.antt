@@ -1,0 +1,10 @@
+pub mod Lists
+pub mod Firsts
+pub mod Behind
+pub mod Committed
+pub mod Keyed
+pub mod Keys
+pub mod Finding
+pub mod Flow
+pub mod SerialLaw
+pub mod Changes

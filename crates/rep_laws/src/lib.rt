@@ -1,0 +1,2 @@
+//! Every legal run of the replication machine keeps its laws.
+#![tactic(auto)]
