@@ -8,3 +8,8 @@ pub mod Finding
 pub mod Flow
 pub mod SerialLaw
 pub mod Changes
+pub mod Moves
+pub mod Sides
+pub mod Inv
+pub mod Admitting
+pub mod SerialPart
