@@ -13,3 +13,5 @@ pub mod Sides
 pub mod Inv
 pub mod Admitting
 pub mod SerialPart
+pub mod Steps
+pub mod DoesLogs
