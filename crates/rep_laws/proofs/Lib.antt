@@ -15,3 +15,6 @@ pub mod Admitting
 pub mod SerialPart
 pub mod Steps
 pub mod DoesLogs
+pub mod DoesRegions
+pub mod DoesPeers
+pub mod DoesQueues
