@@ -18,3 +18,4 @@ pub mod DoesLogs
 pub mod DoesRegions
 pub mod DoesPeers
 pub mod DoesQueues
+pub mod Deliveries
