@@ -19,3 +19,4 @@ pub mod DoesRegions
 pub mod DoesPeers
 pub mod DoesQueues
 pub mod Deliveries
+pub mod DoesMirror
