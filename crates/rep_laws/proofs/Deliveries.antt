@@ -50,7 +50,7 @@ of_told cluster.B s m ts = refl
 of_told cluster.C s m ts = refl
 
 -- commits leave the flights, and stand behind the commits before
-settled_flights : (c : Cluster) (s l : ℕ) (ps : List Pending) (m : Machine) → (settled c s l ps m).flights ≡ m.flights
+pub settled_flights : (c : Cluster) (s l : ℕ) (ps : List Pending) (m : Machine) → (settled c s l ps m).flights ≡ m.flights
 settled_flights c s l ps m = ap (λ (w : Machine). w.flights) (settled_is c s l ps m) ∙ flights_with c (committed s l ps (of c m)) m
 
 settled_commits : (c : Cluster) (s l : ℕ) (ps : List Pending) (m : Machine) → (of c (settled c s l ps m)).commits ≡ (of c m).commits ++ numbered s l (of c m).commits ps

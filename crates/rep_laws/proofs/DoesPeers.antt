@@ -189,7 +189,7 @@ transit_end_does c pair said m =
 
 -- makefolder
 
-abbrev lacks_folder : Phase → Bool
+abbrev pub lacks_folder : Phase → Bool
 lacks_folder phase.Idle = false
 lacks_folder (phase.To to) = false
 lacks_folder phase.NoFolder = true

@@ -20,3 +20,7 @@ pub mod DoesPeers
 pub mod DoesQueues
 pub mod Deliveries
 pub mod DoesMirror
+pub mod RowMoves
+pub mod PairedPart
+pub mod FencePart
+pub mod Lawful

@@ -1,6 +1,7 @@
 -- What holds of one direction makes its serial peers serial.
-use Rattle.std.proofs.Common.{ℕ, ◌≤◌, ◌≡◌, ◌&&◌, Bool, true, false, cond, List, [], ◌∷◌, map, length, drop, filter, Option, Some, None, refl, ap, sym, ◌∙◌, subst}
-use Rattle.std.proofs.lemmas.Bool.{cond_both, cond-true, cond-false, and_from, and_left, and_right, false_from_ne_true}
+use Rattle.std.proofs.Common.{ℕ, ◌≤◌, ◌≡◌, ◌&&◌, Bool, true, false, cond, List, [], ◌∷◌, ◌++◌, ◌==◌, map, length, drop, filter, Option, Some, None, refl, ap, sym, ◌∙◌, subst}
+use Rattle.std.proofs.lemmas.Bool.{cond_both, cond-true, cond-false, and_from, and_left, and_right, or_from, false_from_ne_true}
+use Rattle.std.specs.List.{AllByRecursion}
 use mathlib.Core.List.{IsPrefix}
 use Rattle.rep_types.specs.declared.ids.Cluster.{Cluster}
 use Rattle.rep_types.specs.declared.entry.EntryId.{EntryId}
@@ -10,7 +11,7 @@ use Rattle.rep_model.specs.Regions.{holds}
 use Rattle.rep_model.specs.Commits.{id_of}
 use Rattle.rep_model.specs.Forms.{form}
 use Rattle.rep_model.specs.Order.{has_id, through, lineage, order, firsts, once}
-use Rattle.rep_model.specs.State.{other}
+use Rattle.rep_model.specs.State.{other, mark}
 use Rattle.rep_model.specs.declared.machine.Commit.{Commit}
 use Rattle.rep_model.specs.declared.machine.Peer.{Peer}
 use Rattle.rep_model.specs.declared.machine.Server.{Server}
@@ -47,3 +48,22 @@ flow_is_serial from to {C} {peers} {flights} {D} {servers} w is n p e serial t k
     ap (λ (c : Cluster). ids from (filter (has_form c p.tables) (filter h (drop p.serial_start C)))) is ∙ ap (ids from) (filter-both h g (drop p.serial_start C)) in
     subst (λ (w : List EntryId). IsPrefix (firsts from n p t k C D) w) (sym order_is)
     (firsts_begin (filter found (through n D)) [] (ids from (filter (λ x. h x && g x) (drop p.serial_start C))) [] [] (distinct_filtered from _ (drop p.serial_start C) (distinct_dropped from p.serial_start C w.counted.distinct)) (λ i h. h) (λ i h. h) (λ i h. h) steps)
+
+ordered_from : (c : Cluster) (C : List Commit) (start : ℕ) (g : Commit → Bool) (seen is : List EntryId) → Ordered c C start g seen is → AllByRecursion (λ (i : EntryId). i.cluster ≡ c) is
+ordered_from c C start g seen [] o = tt
+ordered_from c C start g seen (i ∷ is) o = (sym (ap (λ (j : EntryId). j.cluster) o.0.same), ordered_from c C start g (seen ++ i ∷ []) is o.1)
+
+-- names of another cluster aren't among these
+none_named : (c d : Cluster) → (mark d == mark c) ≡ false → (is : List EntryId) → AllByRecursion (λ (i : EntryId). i.cluster ≡ d) is → (xs : List Commit) → filter (λ i. has_id i (ids c xs)) is ≡ []
+none_named c d n [] a xs = refl
+none_named c d n (i ∷ is) a xs = cond-false (has_id i (ids c xs)) (i ∷ filter (λ j. has_id j (ids c xs)) is) (filter (λ j. has_id j (ids c xs)) is) (unnamed xs) ∙ none_named c d n is a.1 xs
+  where
+    unnamed : (ys : List Commit) → has_id i (ids c ys) ≡ false
+    unnamed [] = refl
+    unnamed (y ∷ ys) = or_from _ _ (and_left _ _ (ap (λ (w : Cluster). mark w == mark c) a.0 ∙ n)) (unnamed ys)
+
+-- what came from one cluster is no arrival of another
+pub nothing_first : (from to c : Cluster) {C : List Commit} {peers : List Peer} {flights : List Flight} {D : List Commit} {servers : List Server} → Flow from to C peers flights D servers → (mark from == mark c) ≡ false
+    → (n : ℕ) (p : Peer) (t k : List ℕ) (E : List Commit) (is : List EntryId) → IsPrefix (firsts c n p t k E D) is
+nothing_first from to c {C} {peers} {flights} {D} {servers} w apart n p t k E is =
+    subst (λ (js : List EntryId). IsPrefix (once [] js) is) (sym (none_named c from apart (through n D) (ordered_from from C _ _ [] (through n D) (w.ordered n)) (lineage p t k E))) (is, refl)

@@ -1,0 +1,73 @@
+-- What is kept by every record of a legal run, and the laws that follow from it.
+use Rattle.std.proofs.Common.{ℕ, ◌≡◌, Bool, true, false, List, [], ◌∷◌, ◌++◌, refl, ap, sym, ◌∙◌, subst}
+use Rattle.std.specs.List.{AllByRecursion}
+use Rattle.std.proofs.lemmas.Bool.{false≢true, true≢false}
+use Rattle.rep_types.specs.declared.ids.Cluster.{Cluster}
+use Rattle.rep_types.specs.declared.ids.Cluster.TheVariants.{A, B, C}
+use Rattle.rep_types.specs.declared.event.Event.{Event}
+use Rattle.rep_types.specs.declared.reply.Reply.{Reply}
+use Rattle.rep_types.specs.declared.record.Record.{Record}
+use Rattle.rep_model.specs.State.{opening}
+use Rattle.rep_model.specs.Words.{is_worded}
+use Rattle.rep_model.specs.Rows.{row}
+use Rattle.rep_model.specs.Runs.{Counts, no_faults, after, counts_of, LegalFrom, IsLegal}
+use Rattle.rep_model.specs.Order.{IsSerial}
+use Rattle.rep_model.specs.Promises.{IsFenced}
+use Rattle.rep_model.specs.declared.machine.Machine.{Machine}
+use Rattle.rep_laws.specs.Holds.{HoldsAfterEach}
+use Rattle.rep_laws.proofs.Flow.{Flow}
+use Rattle.rep_laws.proofs.SerialLaw.{flow_is_serial, nothing_first}
+use Rattle.rep_laws.proofs.Inv.{Inv}
+use Rattle.rep_laws.proofs.SerialPart.{move_keeps}
+use Rattle.rep_laws.proofs.Moves.{Moves, Still, Then}
+use Rattle.rep_laws.proofs.DoesQueues.{AllPaired}
+use Rattle.rep_laws.proofs.RowMoves.{row_does}
+use Rattle.rep_laws.proofs.PairedPart.{move_pairs}
+use Rattle.rep_laws.proofs.FencePart.{fenced_holds, third_is_fenced}
+
+pub record Lawful (m : Machine) : Type 0 where
+  pub pairs : AllPaired m.flights
+  pub inv : Inv m
+
+-- where nothing is there
+still : (from to : Cluster) → Flow from to [] [] [] [] []
+still from to = record {
+  counted = record { small = tt; distinct = tt };
+  sent = tt;
+  recorded = tt;
+  ordered = λ n. tt;
+  pending = tt;
+}
+
+pub opening_lawful : Lawful opening
+opening_lawful = record { pairs = tt; inv = record { out_of_a = still A B; out_of_b = still B A } }
+
+moves_lawful : {may : Cluster → Bool} (m new : Machine) → Moves may m new → Lawful m → Lawful new
+moves_lawful m new Still k = k
+moves_lawful m new (Then ms n) k = let mid = moves_lawful m _ ms k in record { pairs = move_pairs _ _ n mid.pairs; inv = move_keeps _ _ n mid.inv }
+
+pub row_lawful : (e : Event) → is_worded e ≡ true → (said : Reply) (m : Machine) → Lawful m → Lawful (row e said m).state
+row_lawful e w said m k = moves_lawful m _ (row_does e w said m k.pairs).moves k
+
+-- a law that follows from what is kept holds after each record
+pub holds_after_each : (law : Machine → Type 0) → ((m : Machine) → Lawful m → law m) → (rs : List Record) (m : Machine) (n : Counts) → Lawful m → LegalFrom m n rs → HoldsAfterEach law m rs
+unfolding after
+holds_after_each law follows [] m n k legal = tt
+holds_after_each law follows (r ∷ rs) m n k legal =
+    let new = row_lawful r.event legal.0.worded r.reply m k in
+    (follows _ new, holds_after_each law follows rs (row r.event r.reply m).state (counts_of r) new legal.1)
+
+pub lawful_is_serial : (m : Machine) → Lawful m → IsSerial m
+lawful_is_serial m k A n p e serial t key = flow_is_serial A B k.inv.out_of_a refl n p e serial t key
+lawful_is_serial m k B n p e serial t key = flow_is_serial B A k.inv.out_of_b refl n p e serial t key
+lawful_is_serial m k C n p e serial t key = nothing_first B A C k.inv.out_of_b refl n p t key m.a.commits _
+
+pub serial_holds : (rs : List Record) → IsLegal rs → HoldsAfterEach IsSerial opening rs
+unfolding IsLegal
+serial_holds rs legal = holds_after_each IsSerial lawful_is_serial rs opening no_faults opening_lawful legal
+
+pub fence_holds : (rs : List Record) → IsLegal rs → (c : Cluster) → IsFenced c false rs
+unfolding IsLegal
+fence_holds rs legal A = fenced_holds A refl false rs opening no_faults tt (λ h. absurd (false≢true h)) legal
+fence_holds rs legal B = fenced_holds B refl false rs opening no_faults tt (λ h. absurd (false≢true h)) legal
+fence_holds rs legal C = third_is_fenced rs opening no_faults legal
