@@ -24,3 +24,4 @@ pub mod RowMoves
 pub mod PairedPart
 pub mod FencePart
 pub mod Lawful
+pub mod SourcedPart

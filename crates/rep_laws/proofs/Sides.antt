@@ -106,3 +106,10 @@ committed_is s l [] side = ap (λ (w : List Commit). record side { commits = w }
 committed_is s l (p ∷ ps) side = let x : Commit = commit_of s l side.commits p in
     committed_is s l ps (committed_one s l p side)
     ∙ ap (λ (w : List Commit). record side { commits = w; written = wrote ps (writes p.kind p.origin side.written) }) (append_assoc side.commits (x ∷ []) (numbered s l (side.commits ++ x ∷ []) ps))
+
+-- what a side with other servers is left as, once entries are committed
+pub settled_side : (c : Cluster) (s l : ℕ) (ps : List Pending) (side : Side) (m : Machine)
+    → settled c s l ps (with c side m) ≡ record (with c (record side { commits = side.commits ++ numbered s l side.commits ps; written = wrote ps side.written }) m) { tickets = told_after c s l ps side m.tickets }
+settled_side A s l ps side m = settled_is A s l ps (with A side m) ∙ ap (λ (w : Side). record (with A w m) { tickets = told_after A s l ps side m.tickets }) (committed_is s l ps side)
+settled_side B s l ps side m = settled_is B s l ps (with B side m) ∙ ap (λ (w : Side). record (with B w m) { tickets = told_after B s l ps side m.tickets }) (committed_is s l ps side)
+settled_side C s l ps side m = settled_is C s l ps (with C side m) ∙ ap (λ (w : Side). record (with C w m) { tickets = told_after C s l ps side m.tickets }) (committed_is s l ps side)
