@@ -242,7 +242,7 @@ pub nothing_left : (ks : List RemoteCopy) → is_nothing ks ≡ true → ks ≡ 
 nothing_left [] h = refl
 nothing_left (k ∷ ks) h = absurd (false≢true h)
 
-replaying_works : (phase : Phase) → is_replaying phase ≡ true → is_idle phase ≡ false
+pub replaying_works : (phase : Phase) → is_replaying phase ≡ true → is_idle phase ≡ false
 replaying_works phase.Idle h = absurd (false≢true h)
 replaying_works (phase.To to) h = refl
 replaying_works phase.NoFolder h = refl

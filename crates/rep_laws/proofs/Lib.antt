@@ -25,3 +25,6 @@ pub mod PairedPart
 pub mod FencePart
 pub mod Lawful
 pub mod SourcedPart
+pub mod Synced
+pub mod LinkPart
+pub mod SoundPart
