@@ -28,3 +28,5 @@ pub mod SourcedPart
 pub mod Synced
 pub mod LinkPart
 pub mod SoundPart
+pub mod Whole
+pub mod SavedPart

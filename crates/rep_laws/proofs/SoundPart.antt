@@ -137,7 +137,7 @@ set_clusters [] n t new e = refl
 set_clusters (u ∷ ts) zero t new e = ap (λ (v : Ticket). v.cluster ∷ clusters ts) (sym (same_Some u t e))
 set_clusters (u ∷ ts) (suc n) t new e = ap (λ cs. u.cluster ∷ cs) (set_clusters ts n t new e)
 
-number_clusters : (k : Option ℕ) (new : Told) (ts : List Ticket) → clusters (tell_number k new ts) ≡ clusters ts
+pub number_clusters : (k : Option ℕ) (new : Told) (ts : List Ticket) → clusters (tell_number k new ts) ≡ clusters ts
 unfolding given
 number_clusters None new ts = refl
 number_clusters (Some k) new ts = by_slot (slice_get ts (k - 1)) refl
@@ -172,7 +172,7 @@ whence_sound c pair m k _ (Came x z placed) = record {
   arrived = λ o q e f. (z.edit, z.kind);
 }
 
-all_sound : (c : Cluster) → is_paired c ≡ true → (m : Machine) → Sounds m → (ps : List Pending) → AllWhence c m ps → AllByRecursion (PendingIn c m) ps
+pub all_sound : (c : Cluster) → is_paired c ≡ true → (m : Machine) → Sounds m → (ps : List Pending) → AllWhence c m ps → AllByRecursion (PendingIn c m) ps
 all_sound c pair m k ps a = All_weaker (λ p h. whence_sound c pair m k p h) ps a
 
 servers_sound : (c : Cluster) → is_paired c ≡ true → (m : Machine) → Sounds m → (vs : List Server) → ServersWhence c m vs → AllByRecursion (λ (v : Server). AllByRecursion (PendingIn c m) v.pending) vs
