@@ -30,3 +30,4 @@ pub mod LinkPart
 pub mod SoundPart
 pub mod Whole
 pub mod SavedPart
+pub mod TicketPart

@@ -104,17 +104,17 @@ fine_keeps from to K L ks js link new ws vs s d told.Plain f = tt
 fine_keeps from to K L ks js link new ws vs s d (told.Synchronous i) f = (claimed_keeps s f.0, d i f.0 f.1)
 fine_keeps from to K L ks js link new ws vs s d told.Doubtful f = tt
 
-all_keeps : (from to : Cluster) (K L : List Commit) (ks js : List Covering) (link new : Link) (ws vs : List Written) → SourceKeeps to K L ks js → DestKeeps from to K ks link new ws vs → (ts : List Ticket) → AllFine from to K ks link ws ts → AllFine from to L js new vs ts
+pub all_keeps : (from to : Cluster) (K L : List Commit) (ks js : List Covering) (link new : Link) (ws vs : List Written) → SourceKeeps to K L ks js → DestKeeps from to K ks link new ws vs → (ts : List Ticket) → AllFine from to K ks link ws ts → AllFine from to L js new vs ts
 all_keeps from to K L ks js link new ws vs s d ts a = All_weaker (λ t f e. fine_keeps from to K L ks js link new ws vs s d t.told (f e)) ts a
 
 pub same_source : (to : Cluster) (K : List Commit) (ks : List Covering) → SourceKeeps to K K ks ks
 same_source to K ks = record { stands = λ x h. h; formed = λ x e h. h }
 
-same_kinds : (to : Cluster) (K : List Commit) (ks js : List Covering) → js ≡ ks → SourceKeeps to K K ks js
+pub same_kinds : (to : Cluster) (K : List Commit) (ks js : List Covering) → js ≡ ks → SourceKeeps to K K ks js
 same_kinds to K ks js e = record { stands = λ x h. h; formed = λ x d h. ap (λ (w : List Covering). form to (covered w) x) e ∙ h }
 
 -- a side changes: its own tickets look at its commits and peers, those of the other at its link and what it has written
-saved_with : (c : Cluster) → is_paired c ≡ true → (s : Side) (m : Machine) → SourceKeeps (other c) (of c m).commits s.commits (kinds (of c m).peers) (kinds s.peers)
+pub saved_with : (c : Cluster) → is_paired c ≡ true → (s : Side) (m : Machine) → SourceKeeps (other c) (of c m).commits s.commits (kinds (of c m).peers) (kinds s.peers)
     → DestKeeps (other c) c (of (other c) m).commits (kinds (of (other c) m).peers) (of c m).link s.link (of c m).written s.written → Saved m → Saved (with c s m)
 saved_with A p s m src dst k = record {
   a = all_keeps A B m.a.commits s.commits (kinds m.a.peers) (kinds s.peers) m.b.link m.b.link m.b.written m.b.written src (λ i q h. h) m.tickets k.a;
@@ -127,15 +127,15 @@ saved_with B p s m src dst k = record {
 saved_with C p s m src dst k = absurd (false≢true p)
 
 -- a side changes its link alone
-saved_link : (c : Cluster) → is_paired c ≡ true → (link : Link) (m : Machine) → DestKeeps (other c) c (of (other c) m).commits (kinds (of (other c) m).peers) (of c m).link link (of c m).written (of c m).written → Saved m → Saved (with c (record (of c m) { link = link }) m)
+pub saved_link : (c : Cluster) → is_paired c ≡ true → (link : Link) (m : Machine) → DestKeeps (other c) c (of (other c) m).commits (kinds (of (other c) m).peers) (of c m).link link (of c m).written (of c m).written → Saved m → Saved (with c (record (of c m) { link = link }) m)
 saved_link c pair link m d k = saved_with c pair _ m (same_source (other c) (of c m).commits (kinds (of c m).peers)) d k
 
-safe_same : (from : Cluster) (link new : Link) (ws : List Written) (i : EntryId) → new.copies ≡ link.copies → new.replaying ≡ link.replaying → new.folder ≡ link.folder → Safe from link ws i → Safe from new ws i
+pub safe_same : (from : Cluster) (link new : Link) (ws : List Written) (i : EntryId) → new.copies ≡ link.copies → new.replaying ≡ link.replaying → new.folder ≡ link.folder → Safe from link ws i → Safe from new ws i
 safe_same from link new ws i e f g (Held k n s h) = Held k (subst (In k) (sym e) n) (ap (λ (o : Option ℕ). is_standing o k) g ∙ s) h
 safe_same from link new ws i e f g (ToReplay k n h) = ToReplay k (subst (In k) (sym f) n) h
 safe_same from link new ws i e f g (IsWritten w n h) = IsWritten w n h
 
-safe_more : (from : Cluster) (link : Link) (ws vs : List Written) (i : EntryId) → ((w : Written) → In w ws → In w vs) → Safe from link ws i → Safe from link vs i
+pub safe_more : (from : Cluster) (link : Link) (ws vs : List Written) (i : EntryId) → ((w : Written) → In w ws → In w vs) → Safe from link ws i → Safe from link vs i
 safe_more from link ws vs i sub (Held k n s h) = Held k n s h
 safe_more from link ws vs i sub (ToReplay k n h) = ToReplay k n h
 safe_more from link ws vs i sub (IsWritten w n h) = IsWritten w (sub w n) h
@@ -158,14 +158,14 @@ why_fine c m _ _ (NowSaved s l i holds) f =
     let q = f.0 in
     (q, Held holds.copy holds.held holds.stands (ap (λ j. has_id j (confirmed_ids c holds.copy)) (sym q.named) ∙ holds.all q.entry q.stands f.1 f.2))
 
-retold_fine : (c : Cluster) (m : Machine) (ts us : List Ticket) → Retold m ts us → AllByRecursion (λ (t : Ticket). t.cluster ≡ c → FineIn c m t.told) ts → AllByRecursion (λ (u : Ticket). u.cluster ≡ c → FineIn c m u.told) us
+pub retold_fine : (c : Cluster) (m : Machine) (ts us : List Ticket) → Retold m ts us → AllByRecursion (λ (t : Ticket). t.cluster ≡ c → FineIn c m t.told) ts → AllByRecursion (λ (u : Ticket). u.cluster ≡ c → FineIn c m u.told) us
 retold_fine c m [] [] r a = tt
 retold_fine c m [] (u ∷ us) r a = absurd r
 retold_fine c m (t ∷ ts) [] r a = absurd r
 retold_fine c m (t ∷ ts) (u ∷ us) r a = (λ e. (let here : t.cluster ≡ c = sym r.0 ∙ e in why_fine c m t.told u.told (subst (λ w. WhyTold m w t.told u.told) here r.1) (a.0 here)), retold_fine c m ts us r.2 a.1)
 
 -- copies
-safe_copied : (from : Cluster) (s l : ℕ) (link : Link) (ws : List Written) (i : EntryId) → Safe from link ws i → Safe from (copied s l link) ws i
+pub safe_copied : (from : Cluster) (s l : ℕ) (link : Link) (ws : List Written) (i : EntryId) → Safe from link ws i → Safe from (copied s l link) ws i
 unfolding given
 safe_copied from s l link ws i h = by_folder link.folder
   where
@@ -229,7 +229,7 @@ finished_server : (K : List Commit) (whole : Bool) (k : RemoteCopy) → ((finish
 finished_server K true k = (refl, refl, refl)
 finished_server K false k = (refl, refl, refl)
 
-safe_offered : (from : Cluster) (K : List Commit) (whole : Bool) (k : RemoteCopy) (link : Link) (ws : List Written) (i : EntryId) → Unique link.copies → In k link.copies → Safe from link ws i → Safe from (record link { copies = with_copy (finished whole (offered_all K k)) link.copies }) ws i
+pub safe_offered : (from : Cluster) (K : List Commit) (whole : Bool) (k : RemoteCopy) (link : Link) (ws : List Written) (i : EntryId) → Unique link.copies → In k link.copies → Safe from link ws i → Safe from (record link { copies = with_copy (finished whole (offered_all K k)) link.copies }) ws i
 safe_offered from K whole k link ws i u n (Held j m st h) =
     let new : RemoteCopy = finished whole (offered_all K k) in
     let f = finished_server K whole k in
@@ -251,11 +251,11 @@ only_written from link ws i none empty (Held k n st h) = absurd (nothing_stands 
 only_written from link ws i none empty (ToReplay k n h) = absurd (subst (In k) empty n)
 only_written from link ws i none empty (IsWritten w n h) = (w, n, h)
 
-safe_written : (from : Cluster) (link new : Link) (ws : List Written) (i : EntryId) → link.folder ≡ None → link.replaying ≡ [] → Safe from link ws i → Safe from new ws i
+pub safe_written : (from : Cluster) (link new : Link) (ws : List Written) (i : EntryId) → link.folder ≡ None → link.replaying ≡ [] → Safe from link ws i → Safe from new ws i
 safe_written from link new ws i none empty h = let r = only_written from link ws i none empty h in IsWritten r.0 r.1 r.2
 
 -- the standing folder's copies are to be replayed
-safe_begun : (from : Cluster) (link new : Link) (ws : List Written) (i : EntryId) → link.replaying ≡ [] → new.replaying ≡ filter (is_standing link.folder) link.copies → Safe from link ws i → Safe from new ws i
+pub safe_begun : (from : Cluster) (link new : Link) (ws : List Written) (i : EntryId) → link.replaying ≡ [] → new.replaying ≡ filter (is_standing link.folder) link.copies → Safe from link ws i → Safe from new ws i
 safe_begun from link new ws i empty e (Held k n st h) = ToReplay k (subst (In k) (sym e) (in_filtered (is_standing link.folder) k link.copies st n)) h
 safe_begun from link new ws i empty e (ToReplay k n h) = absurd (subst (In k) empty n)
 safe_begun from link new ws i empty e (IsWritten w n h) = IsWritten w n h
@@ -299,7 +299,7 @@ kept_or_gone k j ks n = elim (cases_Bool (is_copy_in k.server k.log k.folder j))
 ]
 
 -- what was to be replayed is written, or is still to be replayed
-safe_replayed : (from to : Cluster) (K : List Commit) (ks : List Covering) (link new : Link) (ws : List Written) (tables : List (List ℕ)) (n : ℕ) (k : RemoteCopy) (i : EntryId)
+pub safe_replayed : (from to : Cluster) (K : List Commit) (ks : List Covering) (link new : Link) (ws : List Written) (tables : List (List ℕ)) (n : ℕ) (k : RemoteCopy) (i : EntryId)
     → Distinct (ids from K) → FairCopy K k → tables ≡ covered ks → k.confirmed ≤ n → Unique link.replaying → In k link.replaying
     → new.copies ≡ link.copies → new.folder ≡ link.folder → new.replaying ≡ without_copy k link.replaying
     → Claimed from to K ks i → Safe from link ws i → Safe from new (ws ++ map written_form (forms from to tables (take n k.offered))) i
@@ -342,7 +342,7 @@ none_left test x [] h i = absurd i
 none_left test x (y ∷ ys) h i = let p = or_parts _ _ h in elim i [ inl e ↦ ap test e ∙ not-false _ p.0 | inr r ↦ none_left test x ys p.1 r ]
 
 -- what has a form is of a covered table
-form_covered : (to : Cluster) (tables : List (List ℕ)) (x : Commit) (e : EditValue) → form to tables x ≡ Some e → has_table tables x.region.table.name ≡ true
+pub form_covered : (to : Cluster) (tables : List (List ℕ)) (x : Commit) (e : EditValue) → form to tables x ≡ Some e → has_table tables x.region.table.name ≡ true
 form_covered to tables x e h =
     cond_both (has_table tables x.region.table.name && not (is_marked to x.marks)) (cut_kind x.region.table.families x.kind) None (λ (o : Option EditValue). o ≡ Some e → has_table tables x.region.table.name ≡ true) (λ b _. (and_parts _ _ b).0) (λ _ q. absurd (none-some e q)) h
 
@@ -370,7 +370,7 @@ safe_swept from to {K} link ws k i w shown fair spares q (Held j n st h) = elim 
   | inr g ↦ (let r = swept_written from to ws k j i w shown (in_all (FairCopy K) j link.copies n fair) g.0 g.1 spares q h in IsWritten r.0 r.1 r.2)
 ]
 
-sweep_saved : (c : Cluster) → is_paired c ≡ true → (k : RemoteCopy) (m : Machine) → AllByRecursion (Spares (of c m).commits k) (of c m).peers → Inv m → Sourced m → Sounds m → Saved m → Saved (with (other c) (record (of (other c) m) { link = record (of (other c) m).link { copies = without_copy k (of (other c) m).link.copies } }) m)
+pub sweep_saved : (c : Cluster) → is_paired c ≡ true → (k : RemoteCopy) (m : Machine) → AllByRecursion (Spares (of c m).commits k) (of c m).peers → Inv m → Sourced m → Sounds m → Saved m → Saved (with (other c) (record (of (other c) m) { link = record (of (other c) m).link { copies = without_copy k (of (other c) m).link.copies } }) m)
 sweep_saved A pair k m spares inv s o v = saved_link B refl _ m (λ i q h. safe_swept A B m.b.link m.b.written k i inv.out_of_a o.b.shown s.b.held spares q h) v
 sweep_saved B pair k m spares inv s o v = saved_link A refl _ m (λ i q h. safe_swept B A m.a.link m.a.written k i inv.out_of_b o.a.shown s.a.held spares q h) v
 sweep_saved C pair k m spares inv s o v = absurd (false≢true pair)
