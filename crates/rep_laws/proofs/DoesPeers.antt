@@ -234,7 +234,7 @@ replay_does c pair said m =
     (site c call.List ∷ site c call.Seal ∷ site c call.Read ∷ run_sites c (site c call.Put ∷ [])) said
     (λ none. given_does (lowest_copy link.replaying) still_does (λ k e. record { moves = one (Replays c pair k (kept_entries k (kept_of said)) e (not-false _ none.1.0) none.0 (kept_least k (kept_of said))) }))
 
-abbrev is_nothing : List RemoteCopy → Bool
+abbrev pub is_nothing : List RemoteCopy → Bool
 is_nothing [] = true
 is_nothing (k ∷ ks) = false
 

@@ -1,18 +1,19 @@
 -- What is kept by every record of a legal run, and the laws that follow from it.
 use Rattle.std.proofs.Common.{ℕ, ◌≡◌, Bool, true, false, List, [], ◌∷◌, ◌++◌, refl, ap, sym, ◌∙◌, subst}
 use Rattle.std.specs.List.{AllByRecursion}
-use Rattle.std.proofs.lemmas.Bool.{false≢true, true≢false}
+use Rattle.std.proofs.lemmas.Bool.{false≢true}
+use Rattle.std.proofs.lemmas.Option.{none-some}
 use Rattle.rep_types.specs.declared.ids.Cluster.{Cluster}
 use Rattle.rep_types.specs.declared.ids.Cluster.TheVariants.{A, B, C}
 use Rattle.rep_types.specs.declared.event.Event.{Event}
 use Rattle.rep_types.specs.declared.reply.Reply.{Reply}
 use Rattle.rep_types.specs.declared.record.Record.{Record}
-use Rattle.rep_model.specs.State.{opening}
+use Rattle.rep_model.specs.State.{opening, unlinked, empty_side}
 use Rattle.rep_model.specs.Words.{is_worded}
 use Rattle.rep_model.specs.Rows.{row}
 use Rattle.rep_model.specs.Runs.{Counts, no_faults, after, counts_of, LegalFrom, IsLegal}
 use Rattle.rep_model.specs.Order.{IsSerial}
-use Rattle.rep_model.specs.Promises.{IsFenced}
+use Rattle.rep_model.specs.Promises.{IsKept, IsFenced}
 use Rattle.rep_model.specs.declared.machine.Machine.{Machine}
 use Rattle.rep_laws.specs.Holds.{HoldsAfterEach}
 use Rattle.rep_laws.proofs.Flow.{Flow}
@@ -24,10 +25,20 @@ use Rattle.rep_laws.proofs.DoesQueues.{AllPaired}
 use Rattle.rep_laws.proofs.RowMoves.{row_does}
 use Rattle.rep_laws.proofs.PairedPart.{move_pairs}
 use Rattle.rep_laws.proofs.FencePart.{fenced_holds, third_is_fenced}
+use Rattle.rep_laws.proofs.SourcedPart.{Sourced, move_sources}
+use Rattle.rep_laws.proofs.LinkPart.{Links, LinkOk, move_links}
+use Rattle.rep_laws.proofs.SoundPart.{Sounds, SoundSide, move_sounds}
+use Rattle.rep_laws.proofs.SavedPart.{Saved}
+use Rattle.rep_laws.proofs.TicketPart.{move_saves}
+use Rattle.rep_laws.proofs.KeptLaw.{kept_at}
 
 pub record Lawful (m : Machine) : Type 0 where
   pub pairs : AllPaired m.flights
   pub inv : Inv m
+  pub sourced : Sourced m
+  pub links : Links m
+  pub sound : Sounds m
+  pub saved : Saved m
 
 -- where nothing is there
 still : (from to : Cluster) → Flow from to [] [] [] [] []
@@ -39,12 +50,32 @@ still from to = record {
   pending = tt;
 }
 
+unlinked_ok : LinkOk [] unlinked
+unlinked_ok = record { folder = λ f e. absurd (none-some f e); resting = λ h. refl; absent = λ h. (refl, refl); copies = tt; left = tt; lone = tt }
+
+nothing_sound : (c : Cluster) → SoundSide c empty_side []
+nothing_sound c = record { scoped = tt; regions_of = tt; pending = tt; whole = λ name h. absurd (false≢true h); shown = tt }
+
 pub opening_lawful : Lawful opening
-opening_lawful = record { pairs = tt; inv = record { out_of_a = still A B; out_of_b = still B A } }
+opening_lawful = record {
+  pairs = tt;
+  inv = record { out_of_a = still A B; out_of_b = still B A };
+  sourced = record { a = record { held = tt; replaying = tt; written = tt; pending = tt }; b = record { held = tt; replaying = tt; written = tt; pending = tt } };
+  links = record { a = unlinked_ok; b = unlinked_ok };
+  sound = record { a = nothing_sound A; b = nothing_sound B };
+  saved = record { a = tt; b = tt };
+}
 
 moves_lawful : {may : Cluster → Bool} (m new : Machine) → Moves may m new → Lawful m → Lawful new
 moves_lawful m new Still k = k
-moves_lawful m new (Then ms n) k = let mid = moves_lawful m _ ms k in record { pairs = move_pairs _ _ n mid.pairs; inv = move_keeps _ _ n mid.inv }
+moves_lawful m new (Then ms n) k = let mid = moves_lawful m _ ms k in record {
+  pairs = move_pairs _ _ n mid.pairs;
+  inv = move_keeps _ _ n mid.inv;
+  sourced = move_sources _ _ n mid.inv mid.sourced;
+  links = move_links _ _ n mid.links;
+  sound = move_sounds _ _ n mid.sound;
+  saved = move_saves _ _ n mid.inv mid.sourced mid.links mid.sound mid.saved;
+}
 
 pub row_lawful : (e : Event) → is_worded e ≡ true → (said : Reply) (m : Machine) → Lawful m → Lawful (row e said m).state
 row_lawful e w said m k = moves_lawful m _ (row_does e w said m k.pairs).moves k
@@ -71,3 +102,15 @@ unfolding IsLegal
 fence_holds rs legal A = fenced_holds A refl false rs opening no_faults tt (λ h. absurd (false≢true h)) legal
 fence_holds rs legal B = fenced_holds B refl false rs opening no_faults tt (λ h. absurd (false≢true h)) legal
 fence_holds rs legal C = third_is_fenced rs opening no_faults legal
+
+pub kept_from : (rs : List Record) (m : Machine) (n : Counts) → Lawful m → LegalFrom m n rs → IsKept m rs
+unfolding after
+kept_from [] m n k legal = tt
+kept_from (r ∷ rs) m n k legal = (
+  kept_at r.event legal.0.worded r.reply m k.inv k.sourced k.links k.saved legal.0.reply,
+  kept_from rs (row r.event r.reply m).state (counts_of r) (row_lawful r.event legal.0.worded r.reply m k) legal.1,
+)
+
+pub kept_holds : (rs : List Record) → IsLegal rs → IsKept opening rs
+unfolding IsLegal
+kept_holds rs legal = kept_from rs opening no_faults opening_lawful legal

@@ -31,3 +31,4 @@ pub mod SoundPart
 pub mod Whole
 pub mod SavedPart
 pub mod TicketPart
+pub mod KeptLaw

@@ -213,7 +213,7 @@ saved_aside : (c : Cluster) → is_paired c ≡ true → (side : Side) (m : Mach
 saved_aside c pair side m src link written v = saved_with c pair side m src (λ i q h. subst (λ (w : Link). Safe (other c) w side.written i) (sym link) (subst (λ (ws : List Written). Safe (other c) (of c m).link ws i) (sym written) h)) v
 
 -- in an idle STANDBY alone a folder stands
-no_folder : {ks : List Covering} (link : Link) → LinkOk ks link → is_idle link.phase ≡ false → link.folder ≡ None
+pub no_folder : {ks : List Covering} (link : Link) → LinkOk ks link → is_idle link.phase ≡ false → link.folder ≡ None
 no_folder link o busy = by_folder link.folder (λ f e. o.folder f e)
   where
     by_folder : (q : Option ℕ) → ((f : ℕ) → q ≡ Some f → (is_standby link.state ≡ true) × (is_idle link.phase ≡ true)) → q ≡ None
