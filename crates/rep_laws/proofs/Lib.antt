@@ -20,3 +20,6 @@ pub mod DoesPeers
 pub mod DoesQueues
 pub mod Deliveries
 pub mod DoesMirror
+pub mod RepeatsFold
+pub mod RepeatsShown
+pub mod Repeats
