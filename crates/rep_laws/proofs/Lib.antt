@@ -32,3 +32,6 @@ pub mod Whole
 pub mod SavedPart
 pub mod TicketPart
 pub mod KeptLaw
+pub mod RepeatsFold
+pub mod RepeatsShown
+pub mod Repeats
