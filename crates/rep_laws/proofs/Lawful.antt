@@ -13,6 +13,7 @@ use Rattle.rep_model.specs.Words.{is_worded}
 use Rattle.rep_model.specs.Rows.{row}
 use Rattle.rep_model.specs.Runs.{Counts, no_faults, after, counts_of, LegalFrom, IsLegal}
 use Rattle.rep_model.specs.Order.{IsSerial}
+use Rattle.rep_model.specs.Quiet.{IsQuiet}
 use Rattle.rep_model.specs.Promises.{IsKept, IsFenced}
 use Rattle.rep_model.specs.declared.machine.Machine.{Machine}
 use Rattle.rep_laws.specs.Holds.{HoldsAfterEach}
@@ -25,7 +26,7 @@ use Rattle.rep_laws.proofs.DoesQueues.{AllPaired}
 use Rattle.rep_laws.proofs.RowMoves.{row_does}
 use Rattle.rep_laws.proofs.PairedPart.{move_pairs}
 use Rattle.rep_laws.proofs.FencePart.{fenced_holds, third_is_fenced}
-use Rattle.rep_laws.proofs.SourcedPart.{Sourced, move_sources}
+use Rattle.rep_laws.proofs.SourcedPart.{Sourced, move_sources, sourced_is_quiet}
 use Rattle.rep_laws.proofs.LinkPart.{Links, LinkOk, move_links}
 use Rattle.rep_laws.proofs.SoundPart.{Sounds, SoundSide, move_sounds}
 use Rattle.rep_laws.proofs.SavedPart.{Saved}
@@ -96,6 +97,10 @@ lawful_is_serial m k C n p e serial t key = nothing_first B A C k.inv.out_of_b r
 pub serial_holds : (rs : List Record) → IsLegal rs → HoldsAfterEach IsSerial opening rs
 unfolding IsLegal
 serial_holds rs legal = holds_after_each IsSerial lawful_is_serial rs opening no_faults opening_lawful legal
+
+pub quiet_holds : (rs : List Record) → IsLegal rs → HoldsAfterEach IsQuiet opening rs
+unfolding IsLegal
+quiet_holds rs legal = holds_after_each IsQuiet (λ m k. sourced_is_quiet m k.inv k.sourced) rs opening no_faults opening_lawful legal
 
 pub fence_holds : (rs : List Record) → IsLegal rs → (c : Cluster) → IsFenced c false rs
 unfolding IsLegal

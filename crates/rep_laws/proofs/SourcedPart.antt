@@ -15,6 +15,7 @@ use Rattle.rep_types.specs.declared.state.Kind.TheVariants.{Plain, Serial, Synch
 use Rattle.rep_model.specs.Keyed.{given}
 use Rattle.rep_model.specs.State.{of, with, other, with_link}
 use Rattle.rep_model.specs.Words.{is_paired}
+use Rattle.rep_model.specs.Quiet.{IsQuiet}
 use Rattle.rep_model.specs.Commits.{id_of, stands_in, log_commits, writes, settled}
 use Rattle.rep_model.specs.Copies.{is_copy_in, new_copy, copied, unoffered, with_copy, without_copy, lowest_copy}
 use Rattle.rep_model.specs.Forms.{form, forms, with_form, cut_kind, is_marked}
@@ -31,8 +32,9 @@ use Rattle.rep_model.specs.declared.machine.Written.{Written}
 use Rattle.rep_model.specs.declared.machine.Form.{Form}
 use Rattle.rep_model.specs.declared.machine.Flight.{Flight}
 use Rattle.rep_model.specs.declared.machine.Ticket.{Ticket}
-use Rattle.rep_laws.proofs.Lists.{In, in_all, All_weaker, All_append, All_filtered, All_taken, All_passing, All_middle, found_in}
-use Rattle.rep_laws.proofs.Behind.{Stands, stands_more, one_entry, all_stand}
+use Rattle.rep_laws.proofs.Repeats.{OneEdit, quiet_by_one_edit}
+use Rattle.rep_laws.proofs.Lists.{In, Distinct, in_all, All_weaker, All_append, All_filtered, All_taken, All_passing, All_middle, found_in}
+use Rattle.rep_laws.proofs.Behind.{Stands, stands_more, one_entry, all_stand, ids}
 use Rattle.rep_laws.proofs.Committed.{numbered}
 use Rattle.rep_laws.proofs.Flow.{FlightOk}
 use Rattle.rep_laws.proofs.Admitting.{admitted_all_stand}
@@ -289,3 +291,18 @@ move_sources m new (AddsPeer c pair p kind tables none covering) inv s =
 move_sources m new (MakesSerial c pair x there plain apart) inv s = both_sides c pair _ m (outer_side c pair m s) (own_side c pair m s)
 move_sources m new (SetsStanding c pair x standing there) inv s = both_sides c pair _ m (outer_side c pair m s) (own_side c pair m s)
 move_sources m new (Restarts c pair) inv s = both_sides c pair _ m (outer_side c pair m s) (own_side c pair m s)
+
+-- items with one source have one edit
+pub one_edit : (from : Cluster) (K : List Commit) (ws : List Written) → Distinct (ids from K) → AllByRecursion (FairItem from K) ws → OneEdit ws
+one_edit from K ws d a u w i iu iw eu ew =
+    let x = in_all (FairItem from K) u ws iu a i eu in
+    let y = in_all (FairItem from K) w ws iw a i ew in
+    let same : x.entry ≡ y.entry = one_entry from K x.entry y.entry d x.stands y.stands (x.named ∙ sym y.named) in
+    same_Some u.edit w.edit (sym x.is ∙ (ap (λ (z : Commit). cut_kind z.region.table.families z.kind) same ∙ y.is))
+
+pub sourced_is_quiet : (m : Machine) → Inv m → Sourced m → IsQuiet m
+sourced_is_quiet m inv s = quiet_by_one_edit m (elim [
+  | A ↦ one_edit B m.b.commits m.a.written inv.out_of_b.counted.distinct s.a.written
+  | B ↦ one_edit A m.a.commits m.b.written inv.out_of_a.counted.distinct s.b.written
+  | C ↦ one_edit B m.b.commits m.a.written inv.out_of_b.counted.distinct s.a.written
+])
