@@ -46,13 +46,13 @@ pub dest_commits : (from to : Cluster) {C : List Commit} {peers : List Peer} {fl
 dest_commits from to {C} {peers} {flights} {D} {servers} s l p waits w = let x : Commit = commit_of s l D p in record {
   counted = w.counted;
   sent = All_weaker (λ f h here. (let o = h here in record {
-      peer = o.peer;
-      known = o.known;
-      number = o.number;
-      tables = o.tables;
-      admitted = o.admitted;
-      arrived = λ m. arrived_more from to f.peer f.tables D x f.entries (o.arrived m);
-    })) flights w.sent;
+    peer = o.peer;
+    known = o.known;
+    number = o.number;
+    tables = o.tables;
+    admitted = o.admitted;
+    arrived = λ m. arrived_more from to f.peer f.tables D x f.entries (o.arrived m);
+  })) flights w.sent;
   recorded = All_weaker (λ q r. record { stand = r.stand; arrived = arrived_more from to q.number q.tables D x q.recorded r.arrived }) peers w.recorded;
   ordered = λ n. subst (λ (is : List EntryId). Ordered from C (start_of (peer_at n peers) C) (formed to (peer_at n peers)) [] is) (sym (through_append n D (x ∷ [])))
       (ordered_append from C (start_of (peer_at n peers) C) (formed to (peer_at n peers)) [] (through n D) (through n (x ∷ [])) (w.ordered n) (came_orders from to C peers D n p.origin waits));

@@ -148,8 +148,10 @@ put_does c pair table row cells worded said m = first_does (put_refusals c table
     let t = not_none (table_of c table m) none.1.0 in
     fault_does (fault_among (site c call.Append ∷ []) said) said
     (λ _. given_moves (seat c table row m) m _ (λ x q. let s = seated c table row m x q in broken_moves c pair x.server _ m s.serves (own_whence c m x.region _ (placed_by c table m x s))))
-    (given_does (seat c table row m) still_does (λ x q. record { moves = put_moves c pair table row cells m x worded (seated c table row m x q) t.0 t.1
-    (if_some_true (table_of c table m) (λ (w : Table). list_all (has_family w.families) cells) t.0 t.1 (not-false _ none.1.1.0)) })))
+    (given_does (seat c table row m) still_does (λ x q. record {
+      moves = put_moves c pair table row cells m x worded (seated c table row m x q) t.0 t.1
+          (if_some_true (table_of c table m) (λ (w : Table). list_all (has_family w.families) cells) t.0 t.1 (not-false _ none.1.1.0));
+    })))
 
 -- sync
 

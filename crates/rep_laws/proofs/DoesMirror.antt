@@ -112,7 +112,7 @@ why_saved : (c : Cluster) (s l : ℕ) (m : Machine) → HoldsLog m c s l → (t 
 why_saved c s l m h t told.Pending = StillTold told.Pending
 why_saved c s l m h t (told.Waiting q r x) = cond_both ((mark t.cluster == mark c) && of_log s l q r) (told.Synchronous x) (told.Waiting q r x) (λ u. WhyTold m t.cluster (told.Waiting q r x) u)
     (λ b. let p = and_parts _ _ b in let n = and_parts _ _ p.1 in
-      NowSaved q r x (subst (λ w. HoldsLog m w q r) (sym (mark_sound t.cluster c p.0)) (subst (λ w. HoldsLog m c w r) (sym (eqb-true q s n.0)) (subst (λ w. HoldsLog m c s w) (sym (eqb-true r l n.1)) h))))
+    NowSaved q r x (subst (λ w. HoldsLog m w q r) (sym (mark_sound t.cluster c p.0)) (subst (λ w. HoldsLog m c w r) (sym (eqb-true q s n.0)) (subst (λ w. HoldsLog m c s w) (sym (eqb-true r l n.1)) h))))
     (λ _. StillTold (told.Waiting q r x))
 why_saved c s l m h t told.Plain = StillTold told.Plain
 why_saved c s l m h t (told.Synchronous x) = StillTold (told.Synchronous x)

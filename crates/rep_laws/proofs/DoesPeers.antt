@@ -95,9 +95,11 @@ remove_does c pair p said m = simple_does ((is_none (peer_of c p m), refusal.NoP
 pub make_serial_does : {may : Cluster → Bool} (c : Cluster) → is_paired c ≡ true → (p : ℕ) (said : Reply) (m : Machine) → Does may m (make_serial_row c p said m)
 unfolding make_serial_row
 make_serial_does c pair p said m = simple_does ((is_none (peer_of c p m), refusal.NoPeer) ∷ (of_kind is_synchronous c p m, refusal.IsSync) ∷ (of_kind is_serial c p m, refusal.IsSerial) ∷ []) (site c call.Put ∷ []) said
-    (λ none. record { moves = given_moves (peer_of c p m) m _ (λ x e. one (MakesSerial c pair x (peer_here c p m x e)
-    (if_some_false (peer_of c p m) (λ (y : Peer). is_serial y.kind) x e none.1.1.0)
-    (if_some_false (peer_of c p m) (λ (y : Peer). is_synchronous y.kind) x e none.1.0))) })
+    (λ none. record {
+      moves = given_moves (peer_of c p m) m _ (λ x e. one (MakesSerial c pair x (peer_here c p m x e)
+          (if_some_false (peer_of c p m) (λ (y : Peer). is_serial y.kind) x e none.1.1.0)
+          (if_some_false (peer_of c p m) (λ (y : Peer). is_synchronous y.kind) x e none.1.0)));
+    })
 
 -- sweepremote
 
@@ -129,8 +131,10 @@ sweep_remote_does {may} c pair s said m =
     ∷ (is_some by, given by refusal.NoLog (λ p. refusal.Needed (needer.Peer p)))
     ∷ (is_none (of (other c) m).link.folder, refusal.Fenced)
     ∷ []) (site (other c) call.Remove ∷ []) said
-    (λ none. given_does (sweepable c s m) still_does (λ k e. record { moves = one (Sweeps c pair k (spared (of c m).commits k (of c m).peers
-    (ap (λ (o : Option RemoteCopy). given o None (λ j. copy_needer (of c m).commits j (of c m).peers)) (sym e) ∙ not_some _ none.1.1.0))) }))
+    (λ none. given_does (sweepable c s m) still_does (λ k e. record {
+      moves = one (Sweeps c pair k (spared (of c m).commits k (of c m).peers
+          (ap (λ (o : Option RemoteCopy). given o None (λ j. copy_needer (of c m).commits j (of c m).peers)) (sym e) ∙ not_some _ none.1.1.0)));
+    }))
 
 -- changes of state
 

@@ -77,13 +77,13 @@ pub source_commits : (from to : Cluster) {C : List Commit} {peers : List Peer} {
 source_commits from to {C} {peers} {flights} {D} {servers} s l ps w = let more : List Commit = numbered s l C ps in record {
   counted = counted_committed from s l C ps w.counted;
   sent = All_weaker (λ f h here. (let o = h here in record {
-      peer = o.peer;
-      known = o.known;
-      number = o.number;
-      tables = o.tables;
-      admitted = admitted_grows C more (start_of (Some o.peer) C) (start_of (Some o.peer) (C ++ more)) o.peer.recorded [] f.entries (start_grows (Some o.peer) C more) o.admitted;
-      arrived = o.arrived;
-    })) flights w.sent;
+    peer = o.peer;
+    known = o.known;
+    number = o.number;
+    tables = o.tables;
+    admitted = admitted_grows C more (start_of (Some o.peer) C) (start_of (Some o.peer) (C ++ more)) o.peer.recorded [] f.entries (start_grows (Some o.peer) C more) o.admitted;
+    arrived = o.arrived;
+  })) flights w.sent;
   recorded = All_weaker (λ p r. record { stand = All_weaker (λ x h. stands_more more h) p.recorded r.stand; arrived = r.arrived }) peers w.recorded;
   ordered = λ n. ordered_grows from C more (start_of (peer_at n peers) C) (start_of (peer_at n peers) (C ++ more)) (formed to (peer_at n peers)) [] (through n D) (start_grows (peer_at n peers) C more) (w.ordered n);
   pending = All_weaker (λ v a. All_weaker (λ x h o is. behind_grows more (start_of (peer_at o.peer peers) (C ++ more)) (start_grows (peer_at o.peer peers) C more) (h o is)) v.pending a) servers w.pending;

@@ -60,7 +60,7 @@ unique_copied : (new : RemoteCopy) (ks : List RemoteCopy) → Unique ks → Uniq
 unique_copied new [] u = tt
 unique_copied new (j ∷ js) u = cond_both (is_copy_in new.server new.log new.folder j) (new ∷ js) (j ∷ with_copy new js) Unique
     (λ b. let p = and_parts _ _ b in let q = and_parts _ _ p.0 in
-      (All_weaker (λ i h x y z. h (eqb-true j.server new.server q.0 ∙ x) (eqb-true j.log new.log q.1 ∙ y) (eqb-true j.folder new.folder p.1 ∙ z)) js u.0, u.1))
+    (All_weaker (λ i h x y z. h (eqb-true j.server new.server q.0 ∙ x) (eqb-true j.log new.log q.1 ∙ y) (eqb-true j.folder new.folder p.1 ∙ z)) js u.0, u.1))
     (λ n. (All_copied (Apart j) new js (λ x y z. true≢false (sym (and_from _ _ (and_from _ _ (eq-eqb j.server new.server x) (eq-eqb j.log new.log y)) (eq-eqb j.folder new.folder z)) ∙ n)) u.0, unique_copied new js u.1))
 
 -- a link, and the kinds of its cluster's peers

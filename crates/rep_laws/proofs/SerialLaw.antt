@@ -29,8 +29,8 @@ filter-both h g [] = refl
 filter-both h g (x ∷ xs) =
     cond_both (h x) (x ∷ filter h xs) (filter h xs) (λ w. filter g w ≡ cond (h x && g x) (x ∷ filter (λ y. h y && g y) xs) (filter (λ y. h y && g y) xs))
     (λ a. cond_both (g x) (x ∷ filter g (filter h xs)) (filter g (filter h xs)) (λ w. w ≡ cond (h x && g x) (x ∷ filter (λ y. h y && g y) xs) (filter (λ y. h y && g y) xs))
-      (λ b. ap (λ w. x ∷ w) (filter-both h g xs) ∙ sym (cond-true _ _ _ (and_from _ _ a b)))
-      (λ b. filter-both h g xs ∙ sym (cond-false _ _ _ (and_right _ _ b))))
+    (λ b. ap (λ w. x ∷ w) (filter-both h g xs) ∙ sym (cond-true _ _ _ (and_from _ _ a b)))
+    (λ b. filter-both h g xs ∙ sym (cond-false _ _ _ (and_right _ _ b))))
     (λ a. filter-both h g xs ∙ sym (cond-false _ _ _ (and_left _ _ a)))
 
 pub flow_is_serial : (from to : Cluster) {C : List Commit} {peers : List Peer} {flights : List Flight} {D : List Commit} {servers : List Server} → Flow from to C peers flights D servers → other from ≡ to

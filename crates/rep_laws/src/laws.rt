@@ -19,5 +19,4 @@ pub fn legal_runs_are_lawful()
     ensures kept { (records : List Record) → IsLegal records → IsKept opening records }
     // From the beginning of a promotion until the next folder no mirror of the other cluster is answered.
     ensures fenced { (records : List Record) → IsLegal records → (c : Cluster) → IsFenced c false records }
-{
-}
+{}
