@@ -35,3 +35,5 @@ pub mod KeptLaw
 pub mod RepeatsFold
 pub mod RepeatsShown
 pub mod Repeats
+pub mod ClosedPart
+pub mod Earliest

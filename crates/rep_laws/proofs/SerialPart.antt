@@ -146,7 +146,7 @@ start_at_end Serial n = refl
 abbrev pub restarted : ℕ → Peer → Peer
 restarted start x = if is_synchronous x.kind then record x { start = start; serial_start = start } else x
 
-restart_kind : (k : Kind) (a b n : ℕ) → is_synchronous k ≡ true → kind_start k a n ≡ kind_start k b n
+pub restart_kind : (k : Kind) (a b n : ℕ) → is_synchronous k ≡ true → kind_start k a n ≡ kind_start k b n
 restart_kind Plain a b n h = refl
 restart_kind Serial a b n h = absurd (false≢true h)
 restart_kind Synchronous a b n h = refl
