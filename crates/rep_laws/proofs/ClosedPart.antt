@@ -6,7 +6,7 @@ use Rattle.std.proofs.lemmas.Option.{same_Some}
 use Rattle.rep_types.specs.declared.ids.Cluster.{Cluster}
 use Rattle.rep_types.specs.declared.ids.Cluster.TheVariants.{A, B, C}
 use Rattle.rep_types.specs.declared.state.Kind.TheVariants.{Serial}
-use Rattle.rep_model.specs.State.{of, with, other, is_peer, with_peer}
+use Rattle.rep_model.specs.State.{of, with, other, is_peer, is_flight, with_peer}
 use Rattle.rep_model.specs.Words.{is_paired}
 use Rattle.rep_model.specs.Commits.{stands_in}
 use Rattle.rep_model.specs.Peers.{is_serial, is_synchronous}
@@ -15,9 +15,10 @@ use Rattle.rep_model.specs.declared.machine.Machine.{Machine}
 use Rattle.rep_model.specs.declared.machine.Side.{Side}
 use Rattle.rep_model.specs.declared.machine.Commit.{Commit}
 use Rattle.rep_model.specs.declared.machine.Peer.{Peer}
+use Rattle.rep_model.specs.declared.machine.Queue.{Queue}
 use Rattle.rep_model.specs.declared.machine.Flight.{Flight}
 use Rattle.rep_model.specs.declared.machine.Ticket.{Ticket}
-use Rattle.rep_laws.proofs.Lists.{in_all, All_weaker, All_append, All_found, All_mapped}
+use Rattle.rep_laws.proofs.Lists.{in_all, All_weaker, All_append, All_found, All_mapped, found_in}
 use Rattle.rep_laws.proofs.Finding.{All_replaced}
 use Rattle.rep_laws.proofs.Behind.{Behind, Admitted, behind_grows, behind_weaker}
 use Rattle.rep_laws.proofs.Committed.{numbered}
@@ -26,7 +27,7 @@ use Rattle.rep_laws.proofs.Admitting.{stands_in_left, stands_in_right}
 use Rattle.rep_laws.proofs.SerialPart.{ends_at_end, restarted, restart_kind}
 use Rattle.rep_laws.proofs.Sides.{settled_side, other_paired}
 use Rattle.rep_laws.proofs.Inv.{Inv, outbound}
-use Rattle.rep_laws.proofs.Moves.{Move, Tells, Gives, Phases, Copies, Offers, Sweeps, MakesFolder, Begins, Replays, Queues, Hosts, Settles, Flies, Marks, Notes, AddsPeer, MakesSerial, SetsStanding, Restarts}
+use Rattle.rep_laws.proofs.Moves.{flown_off, Move, Tells, Gives, Phases, Copies, Offers, Sweeps, MakesFolder, Begins, Replays, Lands, Drops, Serves, Hosts, Settles, Flies, Marks, Notes, AddsPeer, MakesSerial, SetsStanding, Restarts}
 
 -- these entries stand behind what is recorded
 abbrev pub ClosedBy : List Commit → ℕ → List Commit → List Commit → Type 0
@@ -70,6 +71,10 @@ closed_restart : (K : List Commit) (start : ℕ) (x : Peer) → ClosedPeer K x �
 closed_restart K start x o = cond_both (is_synchronous x.kind) (record x { start = start; serial_start = start }) x (ClosedPeer K)
     (λ b. subst (λ n. ClosedBy K n x.recorded x.recorded) (restart_kind x.kind x.serial_start start (length K) b) o) (λ _. o)
 
+-- queues change
+closed_requeued : (c : Cluster) (queues : List Queue) (m : Machine) → Closed m → Closed (with c (record (of c m) { queues = queues }) m)
+closed_requeued c queues m k = closed_with c _ m (closed_at c m k) k
+
 pub move_closes : {may : Cluster → Bool} (m new : Machine) → Move may m new → Inv m → Closed m → Closed new
 move_closes m new (Tells ts why) inv k = record { a = k.a; b = k.b }
 move_closes m new (Gives c pair) inv k = record { a = k.a; b = k.b }
@@ -80,22 +85,24 @@ move_closes m new (Sweeps c pair j spares) inv k = closed_with (other c) _ m (cl
 move_closes m new (MakesFolder c pair ok standby busy over) inv k = closed_with c _ m (closed_at c m k) k
 move_closes m new (Begins c pair there over) inv k = closed_with c _ m (closed_at c m k) k
 move_closes m new (Replays c pair j n lowest under there le) inv k = closed_with c _ m (closed_at c m k) k
-move_closes m new (Queues c pair queues) inv k = closed_with c _ m (closed_at c m k) k
-move_closes m new (Hosts c pair tables servers regions queues grown still places) inv k = closed_with c _ m (closed_at c m k) k
-move_closes m new (Settles c pair s l xs servers regions still places whence) inv k =
+move_closes m new (Lands c pair q next e none) inv k = closed_with c _ m (closed_at c m k) k
+move_closes m new (Drops c pair p) inv k = closed_with c _ m (closed_at c m k) k
+move_closes m new (Serves c pair s none) inv k = closed_with c _ m (closed_at c m k) k
+move_closes m new (Hosts c pair tables servers regions same grown still places) inv k = closed_with c _ m (closed_at c m k) k
+move_closes m new (Settles c pair s l xs servers regions numbered_same still places whence) inv k =
     let side : Side = record (of c m) { servers = servers; regions = regions } in
     let done = closed_with c _ m (closed_grows (of c m).commits (numbered s l (of c m).commits xs) (of c m).peers (closed_at c m k)) k in
     subst Closed (sym (settled_side c s l xs side m)) (record { a = done.a; b = done.b })
-move_closes m new (Flies c pair x s n number there) inv k = record { a = k.a; b = k.b }
+move_closes m new (Flies c pair x q s n there found) inv k = closed_requeued c _ (flown_off c x s n m) (record { a = k.a; b = k.b })
 move_closes m new (Marks j f there pair arrived) inv k = record { a = k.a; b = k.b }
-move_closes m new (Notes f x i pair there delivered) inv k =
+move_closes m new (Notes f x q here pair there delivered found out) inv k =
     let c : Cluster = f.cluster in
     let K : List Commit = (of c m).commits in
-    let ok = in_all (λ (g : Flight). g.cluster ≡ c → FlightOk c (other c) K (of c m).peers (of (other c) m).commits g) f m.flights i (outbound c pair m inv).sent refl in
+    let ok = in_all (λ (g : Flight). g.cluster ≡ c → FlightOk c (other c) K (of c m).peers (of (other c) m).commits g) f m.flights (found_in (is_flight f.number) m.flights f here) (outbound c pair m inv).sent refl in
     let is : ok.peer ≡ x = same_Some ok.peer x (sym ok.known ∙ there) in
     let admitted : Admitted K (start_of (Some x) K) x.recorded [] f.entries = subst (λ (q : Peer). Admitted K (start_of (Some q) K) q.recorded [] f.entries) is ok.admitted in
     let before : ClosedPeer K x = All_found (ClosedPeer K) (is_peer f.peer) (of c m).peers x there (closed_at c m k) in
-    closed_peer c _ m (All_append _ x.recorded f.entries (All_weaker (λ y b. behind_weaker (λ z h. stands_in_left x.recorded f.entries z h) b) x.recorded before) (closed_flight K (start_of (Some x) K) x.recorded [] f.entries admitted)) k
+    closed_requeued c _ _ (closed_peer c (record x { recorded = x.recorded ++ f.entries }) m (All_append _ x.recorded f.entries (All_weaker (λ y b. behind_weaker (λ z h. stands_in_left x.recorded f.entries z h) b) x.recorded before) (closed_flight K (start_of (Some x) K) x.recorded [] f.entries admitted)) k)
 move_closes m new (AddsPeer c pair p kind tables none covering) inv k = closed_with c _ m (All_append _ (of c m).peers (new_peer p kind tables (length (of c m).commits) ∷ []) (closed_at c m k) (tt, tt)) k
 move_closes m new (MakesSerial c pair x there plain apart) inv k =
     let K : List Commit = (of c m).commits in

@@ -36,13 +36,10 @@ use Rattle.rep_laws.proofs.Lists.{In, All_append, All_weaker, All_taken, All_map
 use Rattle.rep_laws.proofs.Finding.{All_replaced}
 use Rattle.rep_laws.proofs.Keys.{bytes_same}
 use Rattle.rep_laws.proofs.Sides.{of_tickets, tickets_with}
-use Rattle.rep_laws.proofs.Moves.{Whence, Waited, Own, AllWhence, IsPut, IsPlaced, IsOf, clusters, Move, Gives, Hosts, Same, Settles, Moves, Still, Then, one, and_then}
-use Rattle.rep_laws.proofs.Steps.{Does, first_does, fault_does, simple_does, given_does, still_does, given_moves, if_some_true, not_none, given_some, waited, all_waited, all_placed, own_whence, server_moves, broken_moves, synced_moves, make_copy_moves, doubt_moves, end_moves}
+use Rattle.rep_laws.proofs.Moves.{Whence, Waited, Own, AllWhence, IsPut, IsPlaced, IsOf, clusters, Move, Gives, Serves, Hosts, Same, Settles, Moves, Still, Then, one, and_then}
+use Rattle.rep_laws.proofs.Steps.{Does, first_does, fault_does, simple_does, given_does, still_does, given_moves, if_some_true, not_none, not_some, numbers_replaced, given_some, waited, all_waited, all_placed, own_whence, server_moves, broken_moves, synced_moves, make_copy_moves, doubt_moves, end_moves}
 
 -- server
-
-server_added_moves : {may : Cluster → Bool} (c : Cluster) → is_paired c ≡ true → (s : ℕ) (m : Machine) → Moves may m (server_added c s m)
-server_added_moves c pair s m = one (Hosts c pair _ _ _ _ Same (All_append _ (of c m).servers (new_server s (is_dual c m) ∷ []) (all_waited c m) (tt, tt)) (all_placed c m _))
 
 -- what a failure behind the creation of a remote copy leaves
 abbrev left : Call → Cluster → ℕ → ℕ → Machine → Machine
@@ -64,10 +61,10 @@ left_moves call.List c pair s l m = Still
 
 pub server_does : {may : Cluster → Bool} (c : Cluster) → is_paired c ≡ true → (s : ℕ) (said : Reply) (m : Machine) → Does may m (server_row c s said m)
 unfolding server_row
-server_does c pair s said m = simple_does ((is_some (server_of c s m), refusal.Exists) ∷ []) (site c call.Create ∷ []) said (λ _.
+server_does c pair s said m = simple_does ((is_some (server_of c s m), refusal.Exists) ∷ []) (site c call.Create ∷ []) said (λ none.
     first_does ((is_fenced c m, refusal.Fenced) ∷ []) (λ _.
     fault_does (fault_among (copy_sites c m (site c call.Put ∷ [])) said) said (λ f. left_moves f.call c pair s 1 m)
-    (record { moves = and_then (server_added_moves c pair s m) (make_copy_moves (is_dual c m) c pair s 1 (server_added c s m)) })))
+    (record { moves = and_then (one (Serves c pair s (not_some _ none.0))) (make_copy_moves (is_dual c m) c pair s 1 (server_added c s m)) })))
 
 -- put
 
@@ -169,7 +166,7 @@ sync_does c pair s said m = first_does (live_refusals c s m ((not (if_some (serv
 
 -- a prefix of the pending list is committed, and the server stands as said
 settled_moves : {may : Cluster → Bool} (c : Cluster) → is_paired c ≡ true → (n : ℕ) (v new : Server) (m : Machine) → In v (of c m).servers → new.pending ≡ [] → Moves may m (settled c v.number v.log (take n v.pending) (with_server c new m))
-settled_moves c pair n v new m i e = one (Settles c pair v.number v.log (take n v.pending) _ _ (All_replaced _ (is_server new.number) new (of c m).servers (subst (AllWhence c m) (sym e) tt) (all_waited c m)) (all_placed c m _) (All_taken _ n v.pending (waited c m v i)))
+settled_moves c pair n v new m i e = one (Settles c pair v.number v.log (take n v.pending) _ _ (numbers_replaced new (of c m).servers) (All_replaced _ (is_server new.number) new (of c m).servers (subst (AllWhence c m) (sym e) tt) (all_waited c m)) (all_placed c m _) (All_taken _ n v.pending (waited c m v i)))
 
 -- a healthy log with pending entries
 abbrev is_pending : Server → Bool
@@ -189,7 +186,7 @@ roll_does c pair s said m = simple_does (live_refusals c s m ((if_some (server_o
 
 crashed_side_moves : {may : Cluster → Bool} (c : Cluster) → is_paired c ≡ true → (v : Server) (m : Machine) → In v (of c m).servers
     → Moves may m (with c (record (of c m) { servers = replace (is_server v.number) (record v { live = false }) (of c m).servers; regions = map (λ (h : Hosted). record h { place = after_death v.number h.place }) (of c m).regions }) m)
-crashed_side_moves c pair v m i = one (Hosts c pair _ _ _ _ Same (All_replaced _ (is_server v.number) (record v { live = false }) (of c m).servers (waited c m v i) (all_waited c m))
+crashed_side_moves c pair v m i = one (Hosts c pair _ _ _ (numbers_replaced (record v { live = false }) (of c m).servers) Same (All_replaced _ (is_server v.number) (record v { live = false }) (of c m).servers (waited c m v i) (all_waited c m))
     (All_mapped _ (λ (h : Hosted). record h { place = after_death v.number h.place }) (of c m).regions (all_placed c m _)))
 
 pub crash_does : {may : Cluster → Bool} (c : Cluster) → is_paired c ≡ true → (s : ℕ) (said : Reply) (m : Machine) → Does may m (crash_row c s said m)

@@ -41,7 +41,7 @@ use Rattle.rep_model.specs.declared.machine.Told.TheVariants as told
 use Rattle.rep_laws.proofs.Flow.{peer_at}
 use Rattle.rep_laws.proofs.SerialPart.{found_number, found_again}
 use Rattle.rep_laws.proofs.Sides.{of_with, tickets_with}
-use Rattle.rep_laws.proofs.Moves.{Spares, IsChange, IsCovering, claims, Move, Tells, Phases, Sweeps, MakesFolder, Begins, Replays, Queues, AddsPeer, MakesSerial, SetsStanding, Restarts, Moves, Still, Then, one, and_then}
+use Rattle.rep_laws.proofs.Moves.{Spares, IsChange, IsCovering, claims, Move, Tells, Phases, Sweeps, MakesFolder, Begins, Replays, Drops, AddsPeer, MakesSerial, SetsStanding, Restarts, Moves, Still, Then, one, and_then}
 use Rattle.rep_laws.proofs.Steps.{Does, simple_does, given_does, still_does, given_moves, if_some_false, not_some, not_none, end_moves}
 
 -- peers
@@ -90,7 +90,7 @@ of_kind test c p m = if_some (peer_of c p m) (λ (x : Peer). test x.kind)
 pub remove_does : {may : Cluster → Bool} (c : Cluster) → is_paired c ≡ true → (p : ℕ) (said : Reply) (m : Machine) → Does may m (remove_row c p said m)
 unfolding remove_row
 remove_does c pair p said m = simple_does ((is_none (peer_of c p m), refusal.NoPeer) ∷ (of_kind is_synchronous c p m, refusal.IsSync) ∷ []) (site c call.Put ∷ []) said
-    (λ _. record { moves = and_then (standing_moves c pair p standing.Removed m) (one (Queues c pair _)) })
+    (λ _. record { moves = and_then (standing_moves c pair p standing.Removed m) (one (Drops c pair p)) })
 
 pub make_serial_does : {may : Cluster → Bool} (c : Cluster) → is_paired c ≡ true → (p : ℕ) (said : Reply) (m : Machine) → Does may m (make_serial_row c p said m)
 unfolding make_serial_row

@@ -33,7 +33,7 @@ use Rattle.rep_laws.proofs.Lists.{In, All_append, All_weaker, All_tested, test_a
 use Rattle.rep_laws.proofs.Finding.{All_replaced, find_first}
 use Rattle.rep_laws.proofs.Keys.{bytes_refl}
 use Rattle.rep_laws.proofs.Moves.{IsOf, Grown, Same, More, is_scoped, Move, Hosts, Settles, Moves, Still, Then, one}
-use Rattle.rep_laws.proofs.Steps.{Does, first_does, fault_does, simple_does, given_does, still_does, given_moves, given_some, not_some, waited, all_waited, all_placed, own_whence, server_moves, region_moves, broken_moves, synced_moves}
+use Rattle.rep_laws.proofs.Steps.{Does, first_does, fault_does, simple_does, given_does, still_does, given_moves, given_some, not_some, numbers_replaced, waited, all_waited, all_placed, own_whence, server_moves, region_moves, broken_moves, synced_moves}
 use Rattle.rep_laws.proofs.DoesLogs.{server_in}
 
 -- the region is there, or has a place of the kind that the event wants
@@ -55,7 +55,7 @@ table_moves : {may : Cluster → Bool} (c : Cluster) → is_paired c ≡ true �
     → Moves may m (with c (record (of c m) { tables = (of c m).tables ++ t ∷ []; regions = (of c m).regions ++ hosted region ∷ [] }) m)
 table_moves c pair t region m ok e none =
     let found : find (is_named t.name) ((of c m).tables ++ t ∷ []) ≡ Some t = find_first (is_named t.name) (of c m).tables (t ∷ []) none ∙ cond-true (is_named t.name t) (Some t) None (bytes_refl t.name t.name refl) in
-    one (Hosts c pair _ _ _ _ (More t ok) (all_waited c m) (All_append _ (of c m).regions (hosted region ∷ []) (all_placed c m _)
+    one (Hosts c pair _ _ _ refl (More t ok) (all_waited c m) (All_append _ (of c m).regions (hosted region ∷ []) (all_placed c m _)
     (inr (subst (λ (w : Table). find (is_named w.name) ((of c m).tables ++ t ∷ []) ≡ Some w) (sym e) found), tt)))
 
 pub table_does : {may : Cluster → Bool} (c : Cluster) → is_paired c ≡ true → (name : List ℕ) (families : List Family) → are_families families ≡ true → (said : Reply) (m : Machine) → Does may m (table_row c name families said m)
@@ -109,7 +109,7 @@ failed_moves call.Remove c pair x k m t = broken_moves c pair x.server _ m t.ser
 failed_moves call.List c pair x k m t = broken_moves c pair x.server _ m t.server (own_whence c m x.hosted.region k (x.hosted, t.hosted, refl))
 
 marked_moves : {may : Cluster → Bool} (c : Cluster) → is_paired c ≡ true → (x : Marking) (k : EntryKind) (to : PlaceOf) (m : Machine) → Marked c m x → Moves may m (marked_at c x k to m)
-marked_moves c pair x k to m t = one (Settles c pair x.server.number x.server.log _ _ _
+marked_moves c pair x k to m t = one (Settles c pair x.server.number x.server.log _ _ _ (numbers_replaced (emptied x.server) (of c m).servers)
     (All_replaced _ (is_server x.server.number) (emptied x.server) (of c m).servers tt (all_waited c m))
     (All_replaced _ (is_region x.hosted.region.number) (moved to x.hosted) (of c m).regions (inl (x.hosted, t.hosted, refl)) (all_placed c m _))
     (All_append _ x.server.pending _ (waited c m x.server t.server) (own_whence c m x.hosted.region k (x.hosted, t.hosted, refl), tt)))
@@ -174,7 +174,7 @@ merge_is cluster.C hs g h m = refl
 
 -- the regions of a list have the tables of one that stands
 split_moves : {may : Cluster → Bool} (c : Cluster) → is_paired c ≡ true → (h g : Hosted) (hs : List Hosted) (m : Machine) → In h (of c m).regions → g.region.table ≡ h.region.table → AllByRecursion (λ (n : Hosted). n.region.table ≡ h.region.table) hs → Moves may m (with_new c hs (with_region c g m))
-split_moves {may} c pair h g hs m i e all = subst (Moves may m) (split_is c hs g m) (one (Hosts c pair _ _ _ _ Same (all_waited c m)
+split_moves {may} c pair h g hs m i e all = subst (Moves may m) (split_is c hs g m) (one (Hosts c pair _ _ _ refl Same (all_waited c m)
     (All_append _ (replace (is_region g.region.number) g (of c m).regions) hs (All_replaced _ (is_region g.region.number) g (of c m).regions (inl (h, i, e)) (all_placed c m _)) (All_weaker (λ n q. inl (h, i, q)) hs all))))
 
 pub split_does : {may : Cluster → Bool} (c : Cluster) → is_paired c ≡ true → (r : ℕ) (key : List ℕ) (said : Reply) (m : Machine) → Does may m (split_row c r key said m)
@@ -187,7 +187,7 @@ split_does c pair r key said m = simple_does (placed_refusals c r (is_off (place
     (λ _. given_does (region_of c r m) still_does (λ h e. record { moves = split_moves c pair h (retired c r m h) _ m (region_in c r m h e) refl (refl, (refl, tt)) }))
 
 merge_moves : {may : Cluster → Bool} (c : Cluster) → is_paired c ≡ true → (x y g h : Hosted) (hs : List Hosted) (m : Machine) → In x (of c m).regions → In y (of c m).regions → g.region.table ≡ x.region.table → h.region.table ≡ y.region.table → AllByRecursion (λ (n : Hosted). n.region.table ≡ x.region.table) hs → Moves may m (with_new c hs (with_region c h (with_region c g m)))
-merge_moves {may} c pair x y g h hs m i j e f all = subst (Moves may m) (merge_is c hs g h m) (one (Hosts c pair _ _ _ _ Same (all_waited c m)
+merge_moves {may} c pair x y g h hs m i j e f all = subst (Moves may m) (merge_is c hs g h m) (one (Hosts c pair _ _ _ refl Same (all_waited c m)
     (All_append _ (replace (is_region h.region.number) h (replace (is_region g.region.number) g (of c m).regions)) hs
     (All_replaced _ (is_region h.region.number) h (replace (is_region g.region.number) g (of c m).regions) (inl (y, j, f)) (All_replaced _ (is_region g.region.number) g (of c m).regions (inl (x, i, e)) (all_placed c m _)))
     (All_weaker (λ n q. inl (x, i, q)) hs all))))

@@ -46,7 +46,7 @@ use Rattle.rep_laws.proofs.DoesQueues.{AllPaired}
 use Rattle.rep_laws.proofs.PairedPart.{row_pairs}
 use Rattle.rep_laws.proofs.RowMoves.{may_make, row_does}
 use Rattle.rep_laws.proofs.Sides.{settled_is, committed, committed_one, twice}
-use Rattle.rep_laws.proofs.Moves.{Move, Tells, Gives, Phases, Copies, Offers, Sweeps, MakesFolder, Begins, Replays, Queues, Hosts, Settles, Flies, Marks, Notes, AddsPeer, MakesSerial, SetsStanding, Restarts, Moves, Still, Then}
+use Rattle.rep_laws.proofs.Moves.{flown_off, Move, Tells, Gives, Phases, Copies, Offers, Sweeps, MakesFolder, Begins, Replays, Lands, Drops, Serves, Hosts, Settles, Flies, Marks, Notes, AddsPeer, MakesSerial, SetsStanding, Restarts, Moves, Still, Then}
 
 abbrev pub NoFolder : Cluster → Machine → Type 0
 NoFolder c m = (of c m).link.folder ≡ None
@@ -111,12 +111,14 @@ folder_move may m new (Sweeps d pair k spares) c q free none = folder_with (othe
 folder_move may m new (MakesFolder d pair ok standby busy over) c q free none = folder_made may d pair _ m c q ok free none
 folder_move may m new (Begins d pair there over) c q free none = folder_with d _ m c (λ h. refl) none
 folder_move may m new (Replays d pair k n lowest under there le) c q free none = folder_with d _ m c (λ h. h) none
-folder_move may m new (Queues d pair queues) c q free none = folder_with d _ m c (λ h. h) none
-folder_move may m new (Hosts d pair tables servers regions queues grown still places) c q free none = folder_with d _ m c (λ h. h) none
-folder_move may m new (Settles d pair s l xs servers regions still places whence) c q free none = folder_settled d s l xs (with d (record (of d m) { servers = servers; regions = regions }) m) c (folder_with d _ m c (λ h. h) none)
-folder_move may m new (Flies d pair x s n number there) c q free none = folder_flights _ m c none
+folder_move may m new (Lands d pair q next e empty) c r free none = folder_with d _ m c (λ h. h) none
+folder_move may m new (Drops d pair p) c q free none = folder_with d _ m c (λ h. h) none
+folder_move may m new (Serves d pair s fresh) c q free none = folder_with d _ m c (λ h. h) none
+folder_move may m new (Hosts d pair tables servers regions same grown still places) c q free none = folder_with d _ m c (λ h. h) none
+folder_move may m new (Settles d pair s l xs servers regions numbered_same still places whence) c q free none = folder_settled d s l xs (with d (record (of d m) { servers = servers; regions = regions }) m) c (folder_with d _ m c (λ h. h) none)
+folder_move may m new (Flies d pair x q s n there found) c r free none = folder_with d _ (flown_off d x s n m) c (λ h. h) (folder_flights _ m c none)
 folder_move may m new (Marks k f there pair arrived) c q free none = folder_flights _ m c none
-folder_move may m new (Notes f x i pair there delivered) c q free none = folder_with f.cluster _ m c (λ h. h) none
+folder_move may m new (Notes f x q here pair there delivered found out) c r free none = folder_with f.cluster _ _ c (λ h. h) (folder_with f.cluster _ m c (λ h. h) none)
 folder_move may m new (AddsPeer d pair p kind tables fresh covering) c q free none = folder_with d _ m c (λ h. linked_folder kind (of d m).link ∙ h) none
 folder_move may m new (MakesSerial d pair x there plain apart) c q free none = folder_with d _ m c (λ h. h) none
 folder_move may m new (SetsStanding d pair x standing there) c q free none = folder_with d _ m c (λ h. h) none

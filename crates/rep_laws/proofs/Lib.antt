@@ -37,3 +37,6 @@ pub mod RepeatsShown
 pub mod Repeats
 pub mod ClosedPart
 pub mod Earliest
+pub mod Fronts
+pub mod FrontPart
+pub mod FrontMoves

@@ -21,6 +21,7 @@ use Rattle.rep_model.specs.declared.machine.Machine.{Machine}
 use Rattle.rep_model.specs.declared.machine.Side.{Side}
 use Rattle.rep_model.specs.declared.machine.Peer.{Peer}
 use Rattle.rep_model.specs.declared.machine.Link.{Link}
+use Rattle.rep_model.specs.declared.machine.Queue.{Queue}
 use Rattle.rep_model.specs.declared.machine.RemoteCopy.{RemoteCopy}
 use Rattle.rep_model.specs.declared.machine.Ticket.{Ticket}
 use Rattle.rep_laws.proofs.Lists.{All_weaker, All_append, All_filtered}
@@ -30,7 +31,7 @@ use Rattle.rep_laws.proofs.SerialPart.{restarted, found_again}
 use Rattle.rep_laws.proofs.SourcedPart.{All_copied}
 use Rattle.rep_laws.proofs.DoesPeers.{replaying_works}
 use Rattle.rep_laws.proofs.Synced.{Covering, kind_of, kinds, covered, synced, Lone, synced_is, map_replaced, map_same, kinds_pushed, synced_pushed, lone_pushed}
-use Rattle.rep_laws.proofs.Moves.{offered_all, finished, IsCovering, Move, Tells, Gives, Phases, Copies, Offers, Sweeps, MakesFolder, Begins, Replays, Queues, Hosts, Settles, Flies, Marks, Notes, AddsPeer, MakesSerial, SetsStanding, Restarts}
+use Rattle.rep_laws.proofs.Moves.{flown_off, offered_all, finished, IsCovering, Move, Tells, Gives, Phases, Copies, Offers, Sweeps, MakesFolder, Begins, Replays, Lands, Drops, Serves, Hosts, Settles, Flies, Marks, Notes, AddsPeer, MakesSerial, SetsStanding, Restarts}
 
 -- the copies are of different logs or folders
 abbrev pub Apart : RemoteCopy → RemoteCopy → Type 0
@@ -137,6 +138,10 @@ restart_kinds n ps = map_same kind_of (restarted n) (λ x. cond_both (is_synchro
 pub serial_kind : (x : Peer) → is_synchronous x.kind ≡ false → ◌≡◌ {A = Covering} (false, x.tables) (kind_of x)
 serial_kind x e = ap (λ b. (b, x.tables)) (sym e)
 
+-- queues change
+links_requeued : (c : Cluster) (queues : List Queue) (m : Machine) → Links m → Links (with c (record (of c m) { queues = queues }) m)
+links_requeued c queues m k = links_with c _ m (link_at c m k) k
+
 pub move_links : {may : Cluster → Bool} (m new : Machine) → Move may m new → Links m → Links new
 move_links m new (Tells ts why) k = links_tickets m ts k
 move_links m new (Gives c pair) k = links_tickets m _ k
@@ -175,12 +180,14 @@ move_links m new (Replays c pair j n lowest under there le) k = let o = link_at 
   left = unique_filtered _ (of c m).link.replaying o.left;
   lone = o.lone;
 }) k
-move_links m new (Queues c pair queues) k = links_with c _ m (link_at c m k) k
-move_links m new (Hosts c pair tables servers regions queues grown still places) k = links_with c _ m (link_at c m k) k
-move_links m new (Settles c pair s l xs servers regions still places whence) k = subst Links (sym (settled_side c s l xs (record (of c m) { servers = servers; regions = regions }) m)) (links_tickets _ _ (links_with c _ m (link_at c m k) k))
-move_links m new (Flies c pair x s n number there) k = record { a = k.a; b = k.b }
+move_links m new (Lands c pair q next e none) k = links_with c _ m (link_at c m k) k
+move_links m new (Drops c pair p) k = links_with c _ m (link_at c m k) k
+move_links m new (Serves c pair s none) k = links_with c _ m (link_at c m k) k
+move_links m new (Hosts c pair tables servers regions same grown still places) k = links_with c _ m (link_at c m k) k
+move_links m new (Settles c pair s l xs servers regions numbered_same still places whence) k = subst Links (sym (settled_side c s l xs (record (of c m) { servers = servers; regions = regions }) m)) (links_tickets _ _ (links_with c _ m (link_at c m k) k))
+move_links m new (Flies c pair x q s n there found) k = links_requeued c _ (flown_off c x s n m) (record { a = k.a; b = k.b })
 move_links m new (Marks j f there pair arrived) k = record { a = k.a; b = k.b }
-move_links m new (Notes f x i pair there delivered) k = links_peer f.cluster x _ m (found_again f.peer (of f.cluster m).peers x there) refl k
+move_links m new (Notes f x q here pair there delivered found out) k = links_requeued f.cluster _ _ (links_peer f.cluster x (record x { recorded = x.recorded ++ f.entries }) m (found_again f.peer (of f.cluster m).peers x there) refl k)
 move_links m new (AddsPeer c pair p kind tables none covering) k = links_with c _ m (link_kinds (kinds_pushed (of c m).peers (new_peer p kind tables (length (of c m).commits)))
     (link_added kind tables (of c m).link (λ t. sym (synced_is (of c m).peers) ∙ (covering t).alone) (link_at c m k))) k
 move_links m new (MakesSerial c pair x there plain apart) k = links_peer c x _ m there (serial_kind x apart) k

@@ -1,5 +1,5 @@
 -- The few ways in which an event changes the state. What holds of the state is shown to be kept for each of these, once.
-use Rattle.std.proofs.Common.{ℕ, ◌+◌, ◌-◌, ◌≤◌, ◌≡◌, ◌⊎◌, ◌&&◌, nat_le, true, false, List, [], ◌∷◌, ◌++◌, length, map, take, filter, find, not, Bool, Option, Some, None, slice_get}
+use Rattle.std.proofs.Common.{ℕ, ◌+◌, ◌-◌, ◌≤◌, ◌≡◌, ◌⊎◌, ◌==◌, ◌&&◌, nat_le, true, false, List, [], ◌∷◌, ◌++◌, length, map, take, filter, find, not, Bool, Option, Some, None, slice_get}
 use Rattle.std.specs.List.{AllByRecursion, list_any, list_all}
 use Rattle.rep_types.specs.Edit.{EditValue}
 use Rattle.rep_types.specs.declared.ids.Cluster.{Cluster}
@@ -12,7 +12,7 @@ use Rattle.rep_types.specs.declared.state.SyncState.{SyncState}
 use Rattle.rep_types.specs.declared.state.Phase.{Phase}
 use Rattle.rep_types.specs.declared.state.Phase.TheVariants.{Idle, Replaying}
 use Rattle.rep_model.specs.Keyed.{replace}
-use Rattle.rep_model.specs.State.{of, with, other, mark, is_flight, flight_of, with_link, with_peer}
+use Rattle.rep_model.specs.State.{of, with, other, mark, is_flight, flight_of, queue_of, server_of, with_link, with_peer, with_queue}
 use Rattle.rep_model.specs.Words.{is_paired}
 use Rattle.rep_model.specs.Order.{has_id}
 use Rattle.rep_model.specs.Commits.{id_of, stands_in, log_commits, settled}
@@ -22,9 +22,9 @@ use Rattle.rep_model.specs.Peers.{is_serial, is_synchronous, is_absent, is_stand
 use Rattle.rep_model.specs.Places.{is_named, table_of}
 use Rattle.rep_model.specs.Queues.{batch}
 use Rattle.rep_model.specs.Tickets.{with_ticket}
-use Rattle.rep_model.specs.LogEvents.{has_family}
+use Rattle.rep_model.specs.LogEvents.{has_family, is_dual, new_server, server_added}
 use Rattle.rep_model.specs.PeerEvents.{lacks_table, is_partial, has_synchronous, peer_added, is_standing, restarted_side, with_phase}
-use Rattle.rep_model.specs.QueueEvents.{new_flight}
+use Rattle.rep_model.specs.QueueEvents.{new_flight, next_flight}
 use Rattle.rep_model.specs.PromotionEvents.{is_replaying, covered_tables}
 use Rattle.rep_model.specs.declared.machine.Machine.{Machine}
 use Rattle.rep_model.specs.declared.machine.Commit.{Commit}
@@ -43,7 +43,7 @@ use Rattle.rep_model.specs.declared.machine.Flight.{Flight}
 use Rattle.rep_model.specs.declared.machine.Ticket.{Ticket}
 use Rattle.rep_model.specs.declared.machine.Told.{Told}
 use Rattle.rep_model.specs.declared.machine.Told.TheVariants as told
-use Rattle.rep_laws.proofs.Lists.{In}
+use Rattle.rep_laws.proofs.Lists.{In, all_in, All_weaker, All_append}
 use Rattle.rep_laws.proofs.Behind.{Stands, ids}
 use Rattle.rep_laws.proofs.Flow.{Arrived, peer_at}
 
@@ -178,6 +178,18 @@ pub record IsCovering (c : Cluster) (m : Machine) (tables : List (List ℕ)) : T
   pub there : list_any (lacks_table c m) tables ≡ false
   pub whole : list_any (is_partial c m) tables ≡ false
 
+-- the numbers of servers
+abbrev pub numbers : List Server → List ℕ
+numbers vs = map (λ (v : Server). v.number) vs
+
+-- a batch of the queue is a flight
+abbrev pub flown_off : Cluster → Peer → ℕ → ℕ → Machine → Machine
+flown_off c x s n m = record m { flights = m.flights ++ new_flight (next_flight m) c s x (batch x s n (of c m).commits) ∷ [] }
+
+-- the queues of other peers
+abbrev pub other_queues : ℕ → List Queue → List Queue
+other_queues p qs = filter (λ (q : Queue). not (q.peer == p)) qs
+
 -- the folders that may be made
 pub data Move (may : Cluster → Bool) (m : Machine) : Machine → Type 0 where
   -- tickets are told so
@@ -207,25 +219,30 @@ pub data Move (may : Cluster → Bool) (m : Machine) : Machine → Type 0 where
   -- a copy's first entries are written
   Replays : (c : Cluster) → is_paired c ≡ true → (k : RemoteCopy) (n : ℕ) → lowest_copy (of c m).link.replaying ≡ Some k → is_replaying (of c m).link.phase ≡ true → is_absent (of c m).link.state ≡ false → k.confirmed ≤ n
       → Move may m (replayed c k n m)
-  -- queues stand as said
-  Queues : (c : Cluster) → is_paired c ≡ true → (queues : List Queue) → Move may m (with c (record (of c m) { queues = queues }) m)
-  -- tables, servers, regions and queues stand as said
-  Hosts : (c : Cluster) → is_paired c ≡ true → (tables : List Table) (servers : List Server) (regions : List Hosted) (queues : List Queue)
-      → Grown (of c m).tables tables → ServersWhence c m servers → AllByRecursion (IsOf (of c m).regions tables) regions
-      → Move may m (with c (record (of c m) { tables = tables; servers = servers; regions = regions; queues = queues }) m)
+  -- a queue has no flight out any more
+  Lands : (c : Cluster) → is_paired c ≡ true → (q new : Queue) → queue_of c new.peer new.server m ≡ Some q → new.flight ≡ None → Move may m (with_queue c new m)
+  -- the queues of a peer go
+  Drops : (c : Cluster) → is_paired c ≡ true → (p : ℕ) → Move may m (with c (record (of c m) { queues = other_queues p (of c m).queues }) m)
+  -- a server comes, with its queues
+  Serves : (c : Cluster) → is_paired c ≡ true → (s : ℕ) → server_of c s m ≡ None → Move may m (server_added c s m)
+  -- tables, servers and regions stand as said
+  Hosts : (c : Cluster) → is_paired c ≡ true → (tables : List Table) (servers : List Server) (regions : List Hosted)
+      → numbers servers ≡ numbers (of c m).servers → Grown (of c m).tables tables → ServersWhence c m servers → AllByRecursion (IsOf (of c m).regions tables) regions
+      → Move may m (with c (record (of c m) { tables = tables; servers = servers; regions = regions }) m)
   -- servers and regions stand as said, and then entries are committed
   Settles : (c : Cluster) → is_paired c ≡ true → (s l : ℕ) (xs : List Pending) (servers : List Server) (regions : List Hosted)
-      → ServersWhence c m servers → AllByRecursion (IsOf (of c m).regions (of c m).tables) regions → AllWhence c m xs
+      → numbers servers ≡ numbers (of c m).servers → ServersWhence c m servers → AllByRecursion (IsOf (of c m).regions (of c m).tables) regions → AllWhence c m xs
       → Move may m (settled c s l xs (with c (record (of c m) { servers = servers; regions = regions }) m))
-  -- a batch is sent
-  Flies : (c : Cluster) → is_paired c ≡ true → (x : Peer) (s n number : ℕ) → peer_at x.number (of c m).peers ≡ Some x
-      → Move may m (record m { flights = m.flights ++ new_flight number c s x (batch x s n (of c m).commits) ∷ [] })
+  -- a batch is sent, and is out
+  Flies : (c : Cluster) → is_paired c ≡ true → (x : Peer) (q : Queue) (s n : ℕ) → peer_at x.number (of c m).peers ≡ Some x → queue_of c x.number s m ≡ Some q
+      → Move may m (with_queue c (record q { flight = Some (next_flight m) }) (flown_off c x s n m))
   -- all forms of a flight have arrived
   Marks : (k : ℕ) (f : Flight) → flight_of k m ≡ Some f → is_paired f.cluster ≡ true → Arrived f.cluster (other f.cluster) f.peer f.tables (of (other f.cluster) m).commits f.entries
       → Move may m (record m { flights = replace (is_flight k) (record f { delivered = true }) m.flights })
-  -- a peer has recorded a flight whose forms have arrived
-  Notes : (f : Flight) (x : Peer) → In f m.flights → is_paired f.cluster ≡ true → peer_at f.peer (of f.cluster m).peers ≡ Some x → f.delivered ≡ true
-      → Move may m (with_peer f.cluster (record x { recorded = x.recorded ++ f.entries }) m)
+  -- a peer has recorded the flight that was out, whose forms have arrived
+  Notes : (f : Flight) (x : Peer) (q : Queue) → flight_of f.number m ≡ Some f → is_paired f.cluster ≡ true → peer_at f.peer (of f.cluster m).peers ≡ Some x → f.delivered ≡ true
+      → queue_of f.cluster f.peer f.server m ≡ Some q → q.flight ≡ Some f.number
+      → Move may m (with_queue f.cluster (record q { flight = None }) (with_peer f.cluster (record x { recorded = x.recorded ++ f.entries }) m))
   AddsPeer : (c : Cluster) → is_paired c ≡ true → (p : ℕ) (kind : Kind) (tables : List (List ℕ)) → peer_at p (of c m).peers ≡ None → (is_synchronous kind ≡ true → IsCovering c m tables)
       → Move may m (peer_added c p kind tables m)
   MakesSerial : (c : Cluster) → is_paired c ≡ true → (x : Peer) → peer_at x.number (of c m).peers ≡ Some x → is_serial x.kind ≡ false → is_synchronous x.kind ≡ false
@@ -246,3 +263,8 @@ one move = Then Still move
 pub and_then : {may : Cluster → Bool} {m mid new : Machine} → Moves may m mid → Moves may mid new → Moves may m new
 and_then ms Still = ms
 and_then ms (Then ns n) = Then (and_then ms ns) n
+
+-- what is pending at the servers with a new one waited
+pub served_whence : (c : Cluster) (m : Machine) (s : ℕ) → ServersWhence c m ((of c m).servers ++ new_server s (is_dual c m) ∷ [])
+served_whence c m s = All_append (λ (v : Server). AllWhence c m v.pending) (of c m).servers (new_server s (is_dual c m) ∷ [])
+    (All_weaker (λ v i. All_weaker (λ x j. Waited v i x j) v.pending (all_in v.pending)) (of c m).servers (all_in (of c m).servers)) (tt, tt)

@@ -13,7 +13,7 @@ use Rattle.rep_model.specs.declared.machine.Flight.{Flight}
 use Rattle.rep_laws.proofs.Lists.{All_append}
 use Rattle.rep_laws.proofs.Finding.{All_replaced}
 use Rattle.rep_laws.proofs.Sides.{flights_with}
-use Rattle.rep_laws.proofs.Moves.{Move, Tells, Gives, Phases, Copies, Offers, Sweeps, MakesFolder, Begins, Replays, Queues, Hosts, Settles, Flies, Marks, Notes, AddsPeer, MakesSerial, SetsStanding, Restarts, Moves, Still, Then}
+use Rattle.rep_laws.proofs.Moves.{flown_off, Move, Tells, Gives, Phases, Copies, Offers, Sweeps, MakesFolder, Begins, Replays, Lands, Drops, Serves, Hosts, Settles, Flies, Marks, Notes, AddsPeer, MakesSerial, SetsStanding, Restarts, Moves, Still, Then}
 use Rattle.rep_laws.proofs.DoesQueues.{AllPaired}
 use Rattle.rep_laws.proofs.Deliveries.{settled_flights}
 use Rattle.rep_laws.proofs.RowMoves.{row_does}
@@ -31,12 +31,14 @@ move_pairs m new (Sweeps c pair k spares) a = aside (other c) _ m a
 move_pairs m new (MakesFolder c pair ok standby busy over) a = aside c _ m a
 move_pairs m new (Begins c pair there over) a = aside c _ m a
 move_pairs m new (Replays c pair k n lowest under there le) a = aside c _ m a
-move_pairs m new (Queues c pair queues) a = aside c _ m a
-move_pairs m new (Hosts c pair tables servers regions queues grown still places) a = aside c _ m a
-move_pairs m new (Settles c pair s l xs servers regions still places whence) a = subst AllPaired (sym (settled_flights c s l xs (with c (record (of c m) { servers = servers; regions = regions }) m))) (aside c _ m a)
-move_pairs m new (Flies c pair x s n number there) a = All_append _ m.flights _ a (pair, tt)
+move_pairs m new (Lands c pair q next e none) a = aside c _ m a
+move_pairs m new (Drops c pair p) a = aside c _ m a
+move_pairs m new (Serves c pair s none) a = aside c _ m a
+move_pairs m new (Hosts c pair tables servers regions same grown still places) a = aside c _ m a
+move_pairs m new (Settles c pair s l xs servers regions numbered_same still places whence) a = subst AllPaired (sym (settled_flights c s l xs (with c (record (of c m) { servers = servers; regions = regions }) m))) (aside c _ m a)
+move_pairs m new (Flies c pair x q s n there found) a = aside c _ (flown_off c x s n m) (All_append _ m.flights _ a (pair, tt))
 move_pairs m new (Marks k f there pair arrived) a = All_replaced _ (is_flight k) _ m.flights pair a
-move_pairs m new (Notes f x i pair there delivered) a = aside f.cluster _ m a
+move_pairs m new (Notes f x q here pair there delivered found out) a = aside f.cluster _ _ (aside f.cluster _ m a)
 move_pairs m new (AddsPeer c pair p kind tables none covering) a = aside c _ m a
 move_pairs m new (MakesSerial c pair x there plain apart) a = aside c _ m a
 move_pairs m new (SetsStanding c pair x standing there) a = aside c _ m a

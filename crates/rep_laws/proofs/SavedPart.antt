@@ -52,7 +52,7 @@ use Rattle.rep_laws.proofs.LinkPart.{Links, LinkOk, link_at, Unique, Apart, kind
 use Rattle.rep_laws.proofs.SoundPart.{Sounds, SoundSide, sound_at, Declared, is_global, PendingOk, PutOk, Shown, number_clusters, all_sound}
 use Rattle.rep_laws.proofs.Whole.{whole_form}
 use Rattle.rep_laws.proofs.DoesMirror.{in_has, in_log, placed_in}
-use Rattle.rep_laws.proofs.Moves.{Spares, HoldsLog, WhyTold, StillTold, NoClaim, NowSaved, Retold, claims, clusters, confirmed_ids, offered_all, finished, written_form, IsCovering, Move, Tells, Gives, Phases, Copies, Offers, Sweeps, MakesFolder, Begins, Replays, Queues, Hosts, Settles, Flies, Marks, Notes, AddsPeer, MakesSerial, SetsStanding, Restarts}
+use Rattle.rep_laws.proofs.Moves.{Spares, HoldsLog, WhyTold, StillTold, NoClaim, NowSaved, Retold, claims, clusters, confirmed_ids, offered_all, finished, written_form, IsCovering, Move, Tells, Gives, Phases, Copies, Offers, Sweeps, MakesFolder, Begins, Replays, Hosts, Settles, Flies, Marks, Notes, AddsPeer, MakesSerial, SetsStanding, Restarts}
 
 -- a copy or an item stands for the entry of this name
 pub data Safe (from : Cluster) (link : Link) (ws : List Written) (i : EntryId) : Type 0 where

@@ -16,7 +16,7 @@ use Rattle.rep_model.specs.Order.{has_id, through}
 use Rattle.rep_model.specs.Commits.{id_of, stands_in, commit_of, settled}
 use Rattle.rep_model.specs.Peers.{is_serial, is_synchronous}
 use Rattle.rep_model.specs.Queues.{batch, queue}
-use Rattle.rep_model.specs.QueueEvents.{new_flight}
+use Rattle.rep_model.specs.QueueEvents.{new_flight, next_flight}
 use Rattle.rep_model.specs.PeerEvents.{restarted_side, new_peer}
 use Rattle.rep_model.specs.declared.machine.Machine.{Machine}
 use Rattle.rep_model.specs.declared.machine.Side.{Side}
@@ -25,8 +25,9 @@ use Rattle.rep_model.specs.declared.machine.Pending.{Pending}
 use Rattle.rep_model.specs.declared.machine.Server.{Server}
 use Rattle.rep_model.specs.declared.machine.Peer.{Peer}
 use Rattle.rep_model.specs.declared.machine.Link.{Link}
+use Rattle.rep_model.specs.declared.machine.Queue.{Queue}
 use Rattle.rep_model.specs.declared.machine.Flight.{Flight}
-use Rattle.rep_laws.proofs.Lists.{In, in_all, All_weaker, All_append, All_left, All_found, All_mapped, found_passes}
+use Rattle.rep_laws.proofs.Lists.{In, in_all, All_weaker, All_append, All_left, All_found, All_mapped, found_in, found_passes}
 use Rattle.rep_laws.proofs.Finding.{All_replaced, find_changed}
 use Rattle.rep_laws.proofs.Behind.{Behind, Comes, Admitted, Stands}
 use Rattle.rep_laws.proofs.Committed.{numbered}
@@ -35,7 +36,7 @@ use Rattle.rep_laws.proofs.Changes.{waits_more, dest_commits, dest_servers, flig
 use Rattle.rep_laws.proofs.Sides.{settled_is, committed, committed_one, committed_is, other_paired}
 use Rattle.rep_laws.proofs.Admitting.{stands_in_left, taken_admitted, queue_stands, admitted_all_stand, comes_next, admitted_at}
 use Rattle.rep_laws.proofs.Inv.{Inv, Inbound, Outbound, outbound, inbound, both, inv_tickets}
-use Rattle.rep_laws.proofs.Moves.{ComesFrom, Whence, Waited, Own, Came, AllWhence, ServersWhence, Move, Tells, Gives, Phases, Copies, Offers, Sweeps, MakesFolder, Begins, Replays, Queues, Hosts, Settles, Flies, Marks, Notes, AddsPeer, MakesSerial, SetsStanding, Restarts, Moves, Still, Then}
+use Rattle.rep_laws.proofs.Moves.{flown_off, served_whence, ComesFrom, Whence, Waited, Own, Came, AllWhence, ServersWhence, Move, Tells, Gives, Phases, Copies, Offers, Sweeps, MakesFolder, Begins, Replays, Lands, Drops, Serves, Hosts, Settles, Flies, Marks, Notes, AddsPeer, MakesSerial, SetsStanding, Restarts, Moves, Still, Then}
 
 -- the form of a flight's entry waits for nothing that hasn't arrived
 came_waits : (c : Cluster) → is_paired c ≡ true → (m : Machine) (x : Pending) → Inv m → ComesFrom c m x → Waits (other c) c (of (other c) m).commits (of (other c) m).peers (of c m).commits x
@@ -156,7 +157,7 @@ restart_keeps K start x = cond_both (is_synchronous x.kind) (record x { start = 
     (λ b. (refl, refl, restart_kind x.kind x.serial_start start (length K) b, λ e h. h))
     (λ _. (refl, refl, refl, λ e h. h))
 
-restart_number : (n start : ℕ) (x : Peer) → is_peer n (restarted start x) ≡ is_peer n x
+pub restart_number : (n start : ℕ) (x : Peer) → is_peer n (restarted start x) ≡ is_peer n x
 restart_number n start x = cond_both (is_synchronous x.kind) (record x { start = start; serial_start = start }) x (λ (y : Peer). is_peer n y ≡ is_peer n x) (λ _. refl) (λ _. refl)
 
 restart_found : (K : List Commit) (start : ℕ) (o : Option Peer) → Keeps K o (option_map (restarted start) o)
@@ -170,6 +171,10 @@ restart_recorded c K D start x r = cond_both (is_synchronous x.kind) (record x {
 relinked : (c : Cluster) → is_paired c ≡ true → (link : Link) (m : Machine) → Inv m → Inv (with_link c link m)
 relinked c pair link m inv = both c pair _ m (outbound c pair m inv) (inbound c pair m inv)
 
+-- queues change
+requeued : (c : Cluster) → is_paired c ≡ true → (queues : List Queue) (m : Machine) → Inv m → Inv (with c (record (of c m) { queues = queues }) m)
+requeued c pair queues m inv = both c pair _ m (outbound c pair m inv) (inbound c pair m inv)
+
 pub move_keeps : {may : Cluster → Bool} → (m new : Machine) → Move may m new → Inv m → Inv new
 move_keeps m new (Tells ts why) inv = inv_tickets m ts inv
 move_keeps m new (Gives c pair) inv = inv_tickets m _ inv
@@ -180,37 +185,39 @@ move_keeps m new (Sweeps c pair k spares) inv = relinked (other c) (other_paired
 move_keeps m new (MakesFolder c pair may standby busy over) inv = relinked c pair _ m inv
 move_keeps m new (Begins c pair there over) inv = relinked c pair _ m inv
 move_keeps m new (Replays c pair k n lowest under there le) inv = both c pair _ m (outbound c pair m inv) (inbound c pair m inv)
-move_keeps m new (Queues c pair queues) inv = both c pair _ m (outbound c pair m inv) (inbound c pair m inv)
-move_keeps m new (Hosts c pair tables servers regions queues grown still places) inv = served c pair _ m refl refl still inv
-move_keeps m new (Settles c pair s l xs servers regions still places whence) inv =
+move_keeps m new (Lands c pair q next e none) inv = requeued c pair _ m inv
+move_keeps m new (Drops c pair p) inv = requeued c pair _ m inv
+move_keeps m new (Serves c pair s none) inv = served c pair _ m refl refl (served_whence c m s) inv
+move_keeps m new (Hosts c pair tables servers regions same grown still places) inv = served c pair _ m refl refl still inv
+move_keeps m new (Settles c pair s l xs servers regions numbered_same still places whence) inv =
     let side : Side = record (of c m) { servers = servers; regions = regions } in
     settles c pair s l xs (with c side m) (waits_aside c pair side m refl xs (all_wait c pair m inv xs whence)) (served c pair side m refl refl still inv)
-move_keeps m new (Flies c pair x s n number there) inv =
-    let C : List Commit = (of c m).commits in
+move_keeps m new (Flies c pair x q s n there found) inv =
+    let K : List Commit = (of c m).commits in
     let w = outbound c pair m inv in
-    flight_pushed (new_flight number c s x (batch x s n C)) m inv (record {
+    requeued c pair _ (flown_off c x s n m) (flight_pushed (new_flight (next_flight m) c s x (batch x s n K)) m inv (record {
       peer = x;
       known = there;
       number = refl;
       tables = refl;
-      admitted = taken_admitted c x C w.counted n 65536 [] (queue x s C) (queue_stands x s C);
+      admitted = taken_admitted c x K w.counted n 65536 [] (queue x s K) (queue_stands x s K);
       arrived = λ h. absurd (false≢true h);
-    })
+    }))
 move_keeps m new (Marks k f there pair arrived) inv =
     let ok = All_found (λ (g : Flight). g.cluster ≡ f.cluster → FlightOk f.cluster (other f.cluster) (of f.cluster m).commits (of f.cluster m).peers (of (other f.cluster) m).commits g) (is_flight k) m.flights f there (outbound f.cluster pair m inv).sent refl in
     flight_replaced k (record f { delivered = true }) m inv (record { peer = ok.peer; known = ok.known; number = ok.number; tables = ok.tables; admitted = ok.admitted; arrived = λ _. arrived })
-move_keeps m new (Notes f x i pair there delivered) inv =
+move_keeps m new (Notes f x q here pair there delivered found out) inv =
     let c : Cluster = f.cluster in
     let C : List Commit = (of c m).commits in
     let D : List Commit = (of (other c) m).commits in
-    let ok = in_all (λ (g : Flight). g.cluster ≡ c → FlightOk c (other c) C (of c m).peers D g) f m.flights i (outbound c pair m inv).sent refl in
+    let ok = in_all (λ (g : Flight). g.cluster ≡ c → FlightOk c (other c) C (of c m).peers D g) f m.flights (found_in (is_flight f.number) m.flights f here) (outbound c pair m inv).sent refl in
     let is : ok.peer ≡ x = same_Some ok.peer x (sym ok.known ∙ there) in
     let tables : f.tables ≡ x.tables = sym ok.tables ∙ ap (λ (q : Peer). q.tables) is in
     let number : f.peer ≡ x.number = sym (found_number f.peer (of c m).peers x there) in
     let arrived : Arrived c (other c) x.number x.tables D f.entries = subst (λ n. Arrived c (other c) n x.tables D f.entries) number (subst (λ (ts : List (List ℕ)). Arrived c (other c) f.peer ts D f.entries) tables (ok.arrived delivered)) in
     let recorded = recorded_at c pair f.peer x m there inv in
-    peer_changed c pair x (record x { recorded = x.recorded ++ f.entries }) m (found_again f.peer (of c m).peers x there) (refl, refl, refl, λ e h. stands_in_left x.recorded f.entries e h)
-    (record { stand = All_append _ x.recorded f.entries recorded.stand (admitted_all_stand _ _ _ _ _ ok.admitted); arrived = All_append _ x.recorded f.entries recorded.arrived arrived }) inv
+    requeued c pair _ _ (peer_changed c pair x (record x { recorded = x.recorded ++ f.entries }) m (found_again f.peer (of c m).peers x there) (refl, refl, refl, λ e h. stands_in_left x.recorded f.entries e h)
+    (record { stand = All_append _ x.recorded f.entries recorded.stand (admitted_all_stand _ _ _ _ _ ok.admitted); arrived = All_append _ x.recorded f.entries recorded.arrived arrived }) inv)
 move_keeps m new (AddsPeer c pair p kind tables none covering) inv =
     let w = outbound c pair m inv in
     let fresh : Peer = new_peer p kind tables (length (of c m).commits) in

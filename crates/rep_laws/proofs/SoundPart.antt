@@ -30,6 +30,7 @@ use Rattle.rep_model.specs.declared.machine.Table.{Table}
 use Rattle.rep_model.specs.declared.machine.Hosted.{Hosted}
 use Rattle.rep_model.specs.declared.machine.Server.{Server}
 use Rattle.rep_model.specs.declared.machine.Peer.{Peer}
+use Rattle.rep_model.specs.declared.machine.Queue.{Queue}
 use Rattle.rep_model.specs.declared.machine.Written.{Written}
 use Rattle.rep_model.specs.declared.machine.Ticket.{Ticket}
 use Rattle.rep_model.specs.declared.machine.Told.{Told}
@@ -43,7 +44,7 @@ use Rattle.rep_laws.proofs.SourcedPart.{source_of}
 use Rattle.rep_laws.proofs.Sides.{settled_side, wrote, committed_one, told_one, told_after, other_paired, tickets_with}
 use Rattle.rep_laws.proofs.Synced.{Covering, kind_of, kinds, covered, synced, synced_is, kinds_pushed, covered_first, covered_second, nothing_covered}
 use Rattle.rep_laws.proofs.LinkPart.{kinds_same, restart_kinds, serial_kind}
-use Rattle.rep_laws.proofs.Moves.{Whence, Waited, Own, Came, AllWhence, ServersWhence, IsPut, IsPlaced, IsOf, Grown, Same, More, is_scoped, clusters, IsCovering, Retold, Move, Tells, Gives, Phases, Copies, Offers, Sweeps, MakesFolder, Begins, Replays, Queues, Hosts, Settles, Flies, Marks, Notes, AddsPeer, MakesSerial, SetsStanding, Restarts}
+use Rattle.rep_laws.proofs.Moves.{flown_off, served_whence, Whence, Waited, Own, Came, AllWhence, ServersWhence, IsPut, IsPlaced, IsOf, Grown, Same, More, is_scoped, clusters, IsCovering, Retold, Move, Tells, Gives, Phases, Copies, Offers, Sweeps, MakesFolder, Begins, Replays, Lands, Drops, Serves, Hosts, Settles, Flies, Marks, Notes, AddsPeer, MakesSerial, SetsStanding, Restarts}
 
 -- the table is the one of its name
 abbrev pub Declared : List Table → Table → Type 0
@@ -264,6 +265,10 @@ sound_kinds c {tables} {regions} {servers} {ks} {js} {K} {ws} {cs} e o = subst (
 sounds_peer : (c : Cluster) → is_paired c ≡ true → (x new : Peer) (m : Machine) → peer_at new.number (of c m).peers ≡ Some x → kind_of new ≡ kind_of x → Sounds m → Sounds (with_peer c new m)
 sounds_peer c pair x new m there e k = sounds_with c pair _ m (sound_kinds c (kinds_same x new (of c m).peers there e) (sound_at c pair m k)) k
 
+-- queues change
+sounds_requeued : (c : Cluster) → is_paired c ≡ true → (queues : List Queue) (m : Machine) → Sounds m → Sounds (with c (record (of c m) { queues = queues }) m)
+sounds_requeued c pair queues m k = sounds_with c pair _ m (sound_at c pair m k) k
+
 pub move_sounds : {may : Cluster → Bool} (m new : Machine) → Move may m new → Sounds m → Sounds new
 move_sounds m new (Tells ts why) k = sounds_told m ts (retold_clusters m m.tickets ts why) k
 move_sounds m new (Gives c pair) k = sounds_given m _ k
@@ -275,8 +280,11 @@ move_sounds m new (MakesFolder c pair ok standby busy over) k = sounds_with c pa
 move_sounds m new (Begins c pair there over) k = sounds_with c pair _ m (sound_at c pair m k) k
 move_sounds m new (Replays c pair j n lowest under there le) k = let o = sound_at c pair m k in
     sounds_with c pair _ m (record { scoped = o.scoped; regions_of = o.regions_of; pending = o.pending; whole = o.whole; shown = shown_more (of c m).written _ (of c m).commits o.shown }) k
-move_sounds m new (Queues c pair queues) k = sounds_with c pair _ m (sound_at c pair m k) k
-move_sounds m new (Hosts c pair tables servers regions queues grown still places) k = let o = sound_at c pair m k in
+move_sounds m new (Lands c pair q next e none) k = sounds_requeued c pair _ m k
+move_sounds m new (Drops c pair p) k = sounds_requeued c pair _ m k
+move_sounds m new (Serves c pair s none) k = let o = sound_at c pair m k in
+    sounds_with c pair _ m (record { scoped = o.scoped; regions_of = o.regions_of; pending = servers_sound c pair m k _ (served_whence c m s); whole = o.whole; shown = o.shown }) k
+move_sounds m new (Hosts c pair tables servers regions same grown still places) k = let o = sound_at c pair m k in
     sounds_with c pair _ m (record {
       scoped = scoped_grown (of c m).tables tables grown o.scoped;
       regions_of = All_weaker (λ h q. placed_of (of c m).regions (of c m).tables tables grown o.regions_of h q) regions places;
@@ -284,7 +292,7 @@ move_sounds m new (Hosts c pair tables servers regions queues grown still places
       whole = λ name h. (let t = o.whole name h in (t.0, found_grown (of c m).tables tables grown name t.0 t.1, t.2));
       shown = o.shown;
     }) k
-move_sounds m new (Settles c pair s l xs servers regions still places whence) k =
+move_sounds m new (Settles c pair s l xs servers regions numbered_same still places whence) k =
     let o = sound_at c pair m k in
     let side : Side = record (of c m) { servers = servers; regions = regions } in
     let done : Sounds (with c (record side { commits = side.commits ++ numbered s l side.commits xs; written = wrote xs side.written }) m) = sounds_with c pair _ m (record {
@@ -295,9 +303,9 @@ move_sounds m new (Settles c pair s l xs servers regions still places whence) k 
       shown = settled_shown c (of c m).tables (clusters m.tickets) s l xs (of c m).commits (of c m).written (all_sound c pair m k xs whence) o.shown;
     }) k in
     subst Sounds (sym (settled_side c s l xs side m)) (sounds_told _ _ (told_clusters c s l xs side m.tickets ∙ sym (ap clusters (tickets_with c _ m))) done)
-move_sounds m new (Flies c pair x s n number there) k = record { a = k.a; b = k.b }
+move_sounds m new (Flies c pair x q s n there found) k = sounds_requeued c pair _ (flown_off c x s n m) (record { a = k.a; b = k.b })
 move_sounds m new (Marks j f there pair arrived) k = record { a = k.a; b = k.b }
-move_sounds m new (Notes f x i pair there delivered) k = sounds_peer f.cluster pair x _ m (found_again f.peer (of f.cluster m).peers x there) refl k
+move_sounds m new (Notes f x q here pair there delivered found out) k = sounds_requeued f.cluster pair _ _ (sounds_peer f.cluster pair x (record x { recorded = x.recorded ++ f.entries }) m (found_again f.peer (of f.cluster m).peers x there) refl k)
 move_sounds m new (AddsPeer c pair p kind tables none covering) k =
     let o = sound_at c pair m k in
     let ks : List Covering = kinds (of c m).peers in

@@ -27,6 +27,7 @@ use Rattle.rep_model.specs.declared.machine.Commit.{Commit}
 use Rattle.rep_model.specs.declared.machine.Pending.{Pending}
 use Rattle.rep_model.specs.declared.machine.Server.{Server}
 use Rattle.rep_model.specs.declared.machine.Link.{Link}
+use Rattle.rep_model.specs.declared.machine.Queue.{Queue}
 use Rattle.rep_model.specs.declared.machine.RemoteCopy.{RemoteCopy}
 use Rattle.rep_model.specs.declared.machine.Written.{Written}
 use Rattle.rep_model.specs.declared.machine.Form.{Form}
@@ -40,7 +41,7 @@ use Rattle.rep_laws.proofs.Flow.{FlightOk}
 use Rattle.rep_laws.proofs.Admitting.{admitted_all_stand}
 use Rattle.rep_laws.proofs.Sides.{settled_side, wrote, other_paired, twice}
 use Rattle.rep_laws.proofs.Inv.{Inv, inbound}
-use Rattle.rep_laws.proofs.Moves.{Whence, Waited, Own, Came, ComesFrom, AllWhence, ServersWhence, written_form, replayed_link, offered_all, finished, Move, Tells, Gives, Phases, Copies, Offers, Sweeps, MakesFolder, Begins, Replays, Queues, Hosts, Settles, Flies, Marks, Notes, AddsPeer, MakesSerial, SetsStanding, Restarts}
+use Rattle.rep_laws.proofs.Moves.{flown_off, served_whence, Whence, Waited, Own, Came, ComesFrom, AllWhence, ServersWhence, written_form, replayed_link, offered_all, finished, Move, Tells, Gives, Phases, Copies, Offers, Sweeps, MakesFolder, Begins, Replays, Lands, Drops, Serves, Hosts, Settles, Flies, Marks, Notes, AddsPeer, MakesSerial, SetsStanding, Restarts}
 
 -- the entry that an item came from
 abbrev pub source_of : Option Origin → Option EntryId
@@ -231,6 +232,10 @@ sourced_tickets m ts s = record { a = s.a; b = s.b }
 relinked : (c : Cluster) → is_paired c ≡ true → (link : Link) (m : Machine) → AllByRecursion (FairCopy (of (other c) m).commits) link.copies → AllByRecursion (FairCopy (of (other c) m).commits) link.replaying → Sourced m → Sourced (with_link c link m)
 relinked c pair link m h r s = let own = own_side c pair m s in both_sides c pair _ m (outer_side c pair m s) (record { held = h; replaying = r; written = own.written; pending = own.pending })
 
+-- queues change
+requeued : (c : Cluster) → is_paired c ≡ true → (queues : List Queue) (m : Machine) → Sourced m → Sourced (with c (record (of c m) { queues = queues }) m)
+requeued c pair queues m s = both_sides c pair _ m (outer_side c pair m s) (own_side c pair m s)
+
 pub move_sources : {may : Cluster → Bool} (m new : Machine) → Move may m new → Inv m → Sourced m → Sourced new
 move_sources m new (Tells ts why) inv s = record { a = s.a; b = s.b }
 move_sources m new (Gives c pair) inv s = record { a = s.a; b = s.b }
@@ -260,11 +265,15 @@ move_sources m new (Replays c pair k n lowest under there le) inv s =
       written = All_append _ (of c m).written _ own.written (fair_forms (other c) K c _ (take n k.offered) (All_taken (Stands K) n k.offered (All_weaker (λ z h. h.0) k.offered fair)));
       pending = own.pending;
     })
-move_sources m new (Queues c pair queues) inv s = both_sides c pair _ m (outer_side c pair m s) (own_side c pair m s)
-move_sources m new (Hosts c pair tables servers regions queues grown still places) inv s =
+move_sources m new (Lands c pair q next e none) inv s = requeued c pair _ m s
+move_sources m new (Drops c pair p) inv s = requeued c pair _ m s
+move_sources m new (Serves c pair t none) inv s =
+    let own = own_side c pair m s in
+    both_sides c pair _ m (outer_side c pair m s) (record { held = own.held; replaying = own.replaying; written = own.written; pending = fair_servers c pair m inv s _ (served_whence c m t) })
+move_sources m new (Hosts c pair tables servers regions same grown still places) inv s =
     let own = own_side c pair m s in
     both_sides c pair _ m (outer_side c pair m s) (record { held = own.held; replaying = own.replaying; written = own.written; pending = fair_servers c pair m inv s servers still })
-move_sources m new (Settles c pair t l xs servers regions still places whence) inv s =
+move_sources m new (Settles c pair t l xs servers regions numbered_same still places whence) inv s =
     let own = own_side c pair m s in
     let side : Side = record (of c m) { servers = servers; regions = regions } in
     let m1 : Machine = with c side m in
@@ -276,9 +285,9 @@ move_sources m new (Settles c pair t l xs servers regions still places whence) i
       pending = fair_servers c pair m inv s servers still;
     }) in
     subst Sourced (sym (settled_side c t l xs side m)) (sourced_tickets _ _ done)
-move_sources m new (Flies c pair x t n number there) inv s = record { a = s.a; b = s.b }
+move_sources m new (Flies c pair x q t n there found) inv s = requeued c pair _ (flown_off c x t n m) (record { a = s.a; b = s.b })
 move_sources m new (Marks k f there pair arrived) inv s = record { a = s.a; b = s.b }
-move_sources m new (Notes f x i pair there delivered) inv s = both_sides f.cluster pair _ m (outer_side f.cluster pair m s) (own_side f.cluster pair m s)
+move_sources m new (Notes f x q here pair there delivered found out) inv s = requeued f.cluster pair _ _ (both_sides f.cluster pair _ m (outer_side f.cluster pair m s) (own_side f.cluster pair m s))
 move_sources m new (AddsPeer c pair p kind tables none covering) inv s =
     let own = own_side c pair m s in
     let K : List Commit = (of (other c) m).commits in

@@ -1,5 +1,5 @@
 -- What the forms of rows make of moves, and the moves that many events share.
-use Rattle.std.proofs.Common.{ℕ, zero, suc, ◌+◌, ◌-◌, ◌≡◌, ◌==◌, ◌&&◌, inl, inr, Bool, true, false, not, List, [], ◌∷◌, ◌++◌, map, length, find, Option, Some, None, is_some, is_none, slice_get, slice_set, refl, ap, sym, ◌∙◌, subst, if◌then◌else◌}
+use Rattle.std.proofs.Common.{ℕ, zero, suc, ◌+◌, ◌-◌, ◌≡◌, ◌==◌, ◌&&◌, inl, inr, Bool, true, false, not, List, [], ◌∷◌, ◌++◌, map, length, find, Option, Some, None, is_some, is_none, slice_get, slice_set, refl, ap, sym, ◌∙◌, subst, eqb-true, if◌then◌else◌}
 use Rattle.std.specs.List.{AllByRecursion}
 use Rattle.std.proofs.lemmas.Bool.{cond_both, false≢true, true≢false, not-false}
 use Rattle.std.proofs.lemmas.Option.{none-some, same_Some}
@@ -11,7 +11,7 @@ use Rattle.rep_types.specs.declared.state.Call.TheVariants as call
 use Rattle.rep_types.specs.declared.refusal.Refusal.{Refusal}
 use Rattle.rep_types.specs.declared.reply.Reply.{Reply}
 use Rattle.rep_model.specs.Keyed.{given, if_some, replace}
-use Rattle.rep_model.specs.State.{of, with, mark, is_server, is_region, server_of, with_server, with_region, with_queue}
+use Rattle.rep_model.specs.State.{of, with, mark, is_server, is_region, server_of, with_server, with_region}
 use Rattle.rep_model.specs.Words.{is_paired}
 use Rattle.rep_model.specs.Commits.{settled}
 use Rattle.rep_model.specs.Copies.{make_copy}
@@ -25,14 +25,13 @@ use Rattle.rep_model.specs.declared.machine.Server.{Server}
 use Rattle.rep_model.specs.declared.machine.Hosted.{Hosted}
 use Rattle.rep_model.specs.declared.machine.Table.{Table}
 use Rattle.rep_model.specs.declared.machine.Region.{Region}
-use Rattle.rep_model.specs.declared.machine.Queue.{Queue}
 use Rattle.rep_model.specs.declared.machine.Ticket.{Ticket}
 use Rattle.rep_model.specs.declared.machine.Told.{Told}
 use Rattle.rep_model.specs.declared.machine.Told.TheVariants as told
 use Rattle.rep_laws.proofs.Lists.{In, all_in, All_append, All_weaker, All_taken, found_in}
 use Rattle.rep_laws.proofs.Finding.{All_replaced}
 use Rattle.rep_laws.proofs.Sides.{of_with, of_tickets, tickets_with}
-use Rattle.rep_laws.proofs.Moves.{Whence, Waited, Own, AllWhence, ServersWhence, IsPlaced, IsOf, claims, WhyTold, StillTold, NoClaim, Retold, Move, Tells, Copies, Queues, Hosts, Same, Settles, Moves, Still, Then, one, and_then}
+use Rattle.rep_laws.proofs.Moves.{Whence, Waited, Own, AllWhence, ServersWhence, IsPlaced, IsOf, numbers, claims, WhyTold, StillTold, NoClaim, Retold, Move, Tells, Copies, Hosts, Same, Settles, Moves, Still, Then, one, and_then}
 
 -- where nothing is refused, no test holds
 pub none_holds : (rs : List (Bool × Refusal)) → first rs ≡ None → AllByRecursion (λ (r : Bool × Refusal). r.0 ≡ false) rs
@@ -116,23 +115,27 @@ all_placed c m tables = All_weaker (λ h i. inl (h, i, refl)) (of c m).regions (
 pub own_whence : (c : Cluster) (m : Machine) (region : Region) (kind : EntryKind) → ((h : Hosted) × In h (of c m).regions × (region.table ≡ h.region.table)) → Whence c m (own_pending c region kind None)
 own_whence c m region kind placed = Own (own_pending c region kind None) refl placed (λ k e. absurd (none-some k e))
 
+-- a server in place of one of its number leaves the numbers
+pub numbers_replaced : (new : Server) (vs : List Server) → numbers (replace (is_server new.number) new vs) ≡ numbers vs
+numbers_replaced new [] = refl
+numbers_replaced new (v ∷ vs) = cond_both (v.number == new.number) (new ∷ vs) (v ∷ replace (is_server new.number) new vs) (λ w. numbers w ≡ v.number ∷ numbers vs)
+    (λ t. ap (λ n. n ∷ numbers vs) (sym (eqb-true v.number new.number t)))
+    (λ _. ap (λ ns. v.number ∷ ns) (numbers_replaced new vs))
+
 -- a server stands so
 pub server_moves : {may : Cluster → Bool} (c : Cluster) → is_paired c ≡ true → (new : Server) (m : Machine) → AllWhence c m new.pending → Moves may m (with_server c new m)
-server_moves c pair new m a = one (Hosts c pair _ _ _ _ Same (All_replaced _ (is_server new.number) new (of c m).servers a (all_waited c m)) (all_placed c m _))
+server_moves c pair new m a = one (Hosts c pair _ _ _ (numbers_replaced new (of c m).servers) Same (All_replaced _ (is_server new.number) new (of c m).servers a (all_waited c m)) (all_placed c m _))
 
 -- a region stands so
 pub region_moves : {may : Cluster → Bool} (c : Cluster) → is_paired c ≡ true → (h new : Hosted) (m : Machine) → In h (of c m).regions → new.region.table ≡ h.region.table → Moves may m (with_region c new m)
-region_moves c pair h new m i e = one (Hosts c pair _ _ _ _ Same (all_waited c m) (All_replaced _ (is_region new.region.number) new (of c m).regions (inl (h, i, e)) (all_placed c m _)))
-
-pub queue_moves : {may : Cluster → Bool} (c : Cluster) → is_paired c ≡ true → (q : Queue) (m : Machine) → Moves may m (with_queue c q m)
-queue_moves c pair q m = one (Queues c pair _)
+region_moves c pair h new m i e = one (Hosts c pair _ _ _ refl Same (all_waited c m) (All_replaced _ (is_region new.region.number) new (of c m).regions (inl (h, i, e)) (all_placed c m _)))
 
 pub broken_moves : {may : Cluster → Bool} (c : Cluster) → is_paired c ≡ true → (v : Server) (x : Pending) (m : Machine) → In v (of c m).servers → Whence c m x → Moves may m (broken_by c v x m)
 broken_moves c pair v x m i w = server_moves c pair _ m (All_append _ v.pending (x ∷ []) (waited c m v i) (w, tt))
 
 -- the pending list of a server is committed, with entries behind it
 pub synced_moves : {may : Cluster → Bool} (c : Cluster) → is_paired c ≡ true → (v : Server) (ps : List Pending) (m : Machine) → In v (of c m).servers → AllWhence c m ps → Moves may m (synced_with c v ps m)
-synced_moves c pair v ps m i a = one (Settles c pair v.number v.log (v.pending ++ ps) _ _ (All_replaced _ (is_server v.number) (emptied v) (of c m).servers tt (all_waited c m)) (all_placed c m _) (All_append _ v.pending ps (waited c m v i) a))
+synced_moves c pair v ps m i a = one (Settles c pair v.number v.log (v.pending ++ ps) _ _ (numbers_replaced (emptied v) (of c m).servers) (All_replaced _ (is_server v.number) (emptied v) (of c m).servers tt (all_waited c m)) (all_placed c m _) (All_append _ v.pending ps (waited c m v i) a))
 
 pub make_copy_moves : {may : Cluster → Bool} (b : Bool) (c : Cluster) → is_paired c ≡ true → (s l : ℕ) (m : Machine) → Moves may m (make_copy b c s l m)
 make_copy_moves true c pair s l m = one (Copies c pair s l)

@@ -30,6 +30,7 @@ use Rattle.rep_model.specs.declared.machine.Table.{Table}
 use Rattle.rep_model.specs.declared.machine.Server.{Server}
 use Rattle.rep_model.specs.declared.machine.Peer.{Peer}
 use Rattle.rep_model.specs.declared.machine.Link.{Link}
+use Rattle.rep_model.specs.declared.machine.Queue.{Queue}
 use Rattle.rep_model.specs.declared.machine.RemoteCopy.{RemoteCopy}
 use Rattle.rep_model.specs.declared.machine.Written.{Written}
 use Rattle.rep_model.specs.declared.machine.Ticket.{Ticket}
@@ -48,7 +49,7 @@ use Rattle.rep_laws.proofs.LinkPart.{Links, LinkOk, link_at, kinds_same, restart
 use Rattle.rep_laws.proofs.SoundPart.{Sounds, SoundSide, sound_at, Declared, is_global, PendingOk, PutOk, number_clusters, all_sound}
 use Rattle.rep_laws.proofs.SavedPart.{Safe, Claimed, Fine, AllFine, Saved, SourceKeeps, DestKeeps, same_source, same_kinds, saved_with, saved_link, safe_same, safe_more, retold_fine, safe_copied, safe_offered, safe_written, safe_begun, safe_replayed, sweep_saved, form_covered, all_keeps}
 use Rattle.rep_laws.proofs.Whole.{whole_form}
-use Rattle.rep_laws.proofs.Moves.{clusters, Retold, IsCovering, Move, Tells, Gives, Phases, Copies, Offers, Sweeps, MakesFolder, Begins, Replays, Queues, Hosts, Settles, Flies, Marks, Notes, AddsPeer, MakesSerial, SetsStanding, Restarts}
+use Rattle.rep_laws.proofs.Moves.{flown_off, clusters, Retold, IsCovering, Move, Tells, Gives, Phases, Copies, Offers, Sweeps, MakesFolder, Begins, Replays, Lands, Drops, Serves, Hosts, Settles, Flies, Marks, Notes, AddsPeer, MakesSerial, SetsStanding, Restarts}
 
 -- what holds of each ticket holds of each still, where it holds of the one that was told
 All_set : (P : Ticket → Type 0) (ts : List Ticket) (n : ℕ) (new : Ticket) → P new → AllByRecursion P ts → AllByRecursion P (slice_set ts n new)
@@ -220,6 +221,10 @@ no_folder link o busy = by_folder link.folder (λ f e. o.folder f e)
     by_folder None h = refl
     by_folder (Some f) h = absurd (true≢false (sym (h f refl).1 ∙ busy))
 
+-- queues change
+saved_requeued : (c : Cluster) → is_paired c ≡ true → (queues : List Queue) (m : Machine) → Saved m → Saved (with c (record (of c m) { queues = queues }) m)
+saved_requeued c pair queues m v = saved_aside c pair _ m (same_source (other c) (of c m).commits (kinds (of c m).peers)) refl refl v
+
 pub move_saves : {may : Cluster → Bool} (m new : Machine) → Move may m new → Inv m → Sourced m → Links m → Sounds m → Saved m → Saved new
 move_saves m new (Tells ts why) inv s k o v = record { a = retold_fine A m m.tickets ts why v.a; b = retold_fine B m m.tickets ts why v.b }
 move_saves m new (Gives c pair) inv s k o v = record { a = All_append _ m.tickets _ v.a (λ e. tt, tt); b = All_append _ m.tickets _ v.b (λ e. tt, tt) }
@@ -234,14 +239,16 @@ move_saves m new (Replays c pair j n lowest under there le) inv s k o v =
     let fair : FairCopy (of (other c) m).commits j = in_all (FairCopy (of (other c) m).commits) j (of c m).link.replaying there (own_side c pair m s).replaying in
     saved_with c pair _ m (same_source (other c) (of c m).commits (kinds (of c m).peers))
     (λ i q h. safe_replayed (other c) c (of (other c) m).commits (kinds (of (other c) m).peers) (of c m).link _ (of c m).written _ n j i (inbound c pair m inv).counted.distinct fair (covered_is (of (other c) m).peers) le (link_at c m k).left there refl refl refl q h) v
-move_saves m new (Queues c pair queues) inv s k o v = saved_aside c pair _ m (same_source (other c) (of c m).commits (kinds (of c m).peers)) refl refl v
-move_saves m new (Hosts c pair tables servers regions queues grown still places) inv s k o v = saved_aside c pair _ m (same_source (other c) (of c m).commits (kinds (of c m).peers)) refl refl v
-move_saves m new (Settles c pair t l xs servers regions still places whence) inv s k o v =
+move_saves m new (Lands c pair q next e none) inv s k o v = saved_requeued c pair _ m v
+move_saves m new (Drops c pair p) inv s k o v = saved_requeued c pair _ m v
+move_saves m new (Serves c pair t none) inv s k o v = saved_aside c pair _ m (same_source (other c) (of c m).commits (kinds (of c m).peers)) refl refl v
+move_saves m new (Hosts c pair tables servers regions same grown still places) inv s k o v = saved_aside c pair _ m (same_source (other c) (of c m).commits (kinds (of c m).peers)) refl refl v
+move_saves m new (Settles c pair t l xs servers regions numbered_same still places whence) inv s k o v =
     let side : Side = record (of c m) { servers = servers; regions = regions } in
     subst Saved (sym (settled_side c t l xs side m)) (settled_saved c pair t l xs side m refl refl refl refl refl k o (all_sound c pair m o xs whence) v)
-move_saves m new (Flies c pair x t n number there) inv s k o v = record { a = v.a; b = v.b }
+move_saves m new (Flies c pair x q t n there found) inv s k o v = saved_requeued c pair _ (flown_off c x t n m) (record { a = v.a; b = v.b })
 move_saves m new (Marks j f there pair arrived) inv s k o v = record { a = v.a; b = v.b }
-move_saves m new (Notes f x i pair there delivered) inv s k o v = saved_kinds f.cluster pair _ m (kinds_same x (record x { recorded = x.recorded ++ f.entries }) (of f.cluster m).peers (found_again f.peer (of f.cluster m).peers x there) refl) v
+move_saves m new (Notes f x q here pair there delivered found out) inv s k o v = saved_requeued f.cluster pair _ _ (saved_kinds f.cluster pair _ m (kinds_same x (record x { recorded = x.recorded ++ f.entries }) (of f.cluster m).peers (found_again f.peer (of f.cluster m).peers x there) refl) v)
 move_saves m new (AddsPeer c pair p kind tables none covering) inv s k o v =
     let ks : List Covering = kinds (of c m).peers in
     let K : List Commit = (of c m).commits in
