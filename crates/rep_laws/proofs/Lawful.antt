@@ -11,7 +11,7 @@ use Rattle.rep_types.specs.declared.record.Record.{Record}
 use Rattle.rep_model.specs.State.{opening, unlinked, empty_side}
 use Rattle.rep_model.specs.Words.{is_worded}
 use Rattle.rep_model.specs.Rows.{row}
-use Rattle.rep_model.specs.Runs.{Counts, no_faults, after, counts_of, LegalFrom, IsLegal}
+use Rattle.rep_model.specs.Runs.{Counts, no_faults, after, counts_of, state_from, state_of, LegalFrom, IsLegal}
 use Rattle.rep_model.specs.Order.{IsSerial}
 use Rattle.rep_model.specs.Quiet.{IsQuiet}
 use Rattle.rep_model.specs.Promises.{IsKept, IsFenced}
@@ -32,6 +32,9 @@ use Rattle.rep_laws.proofs.SoundPart.{Sounds, SoundSide, move_sounds}
 use Rattle.rep_laws.proofs.SavedPart.{Saved}
 use Rattle.rep_laws.proofs.TicketPart.{move_saves}
 use Rattle.rep_laws.proofs.KeptLaw.{kept_at}
+use Rattle.rep_laws.proofs.ClosedPart.{Closed, move_closes}
+use Rattle.rep_laws.proofs.FrontPart.{Fronted, FrontIn}
+use Rattle.rep_laws.proofs.FrontMoves.{move_fronts}
 
 pub record Lawful (m : Machine) : Type 0 where
   pub pairs : AllPaired m.flights
@@ -40,6 +43,8 @@ pub record Lawful (m : Machine) : Type 0 where
   pub links : Links m
   pub sound : Sounds m
   pub saved : Saved m
+  pub closed : Closed m
+  pub fronted : Fronted m
 
 -- where nothing is there
 still : (from to : Cluster) → Flow from to [] [] [] [] []
@@ -57,6 +62,9 @@ unlinked_ok = record { folder = λ f e. absurd (none-some f e); resting = λ h. 
 nothing_sound : (c : Cluster) → SoundSide c empty_side []
 nothing_sound c = record { scoped = tt; regions_of = tt; pending = tt; whole = λ name h. absurd (false≢true h); shown = tt }
 
+nothing_fronted : (c : Cluster) → FrontIn c empty_side []
+nothing_fronted c = record { fronts = tt; out = tt; unique = tt; known = tt; served = tt; peers_differ = tt; servers_differ = tt }
+
 pub opening_lawful : Lawful opening
 opening_lawful = record {
   pairs = tt;
@@ -65,6 +73,8 @@ opening_lawful = record {
   links = record { a = unlinked_ok; b = unlinked_ok };
   sound = record { a = nothing_sound A; b = nothing_sound B };
   saved = record { a = tt; b = tt };
+  closed = record { a = tt; b = tt };
+  fronted = record { a = nothing_fronted A; b = nothing_fronted B; counted = tt };
 }
 
 moves_lawful : {may : Cluster → Bool} (m new : Machine) → Moves may m new → Lawful m → Lawful new
@@ -76,6 +86,8 @@ moves_lawful m new (Then ms n) k = let mid = moves_lawful m _ ms k in record {
   links = move_links _ _ n mid.links;
   sound = move_sounds _ _ n mid.sound;
   saved = move_saves _ _ n mid.inv mid.sourced mid.links mid.sound mid.saved;
+  closed = move_closes _ _ n mid.inv mid.closed;
+  fronted = move_fronts _ _ n mid.inv mid.fronted;
 }
 
 pub row_lawful : (e : Event) → is_worded e ≡ true → (said : Reply) (m : Machine) → Lawful m → Lawful (row e said m).state
@@ -89,6 +101,16 @@ holds_after_each law follows (r ∷ rs) m n k legal =
     let new = row_lawful r.event legal.0.worded r.reply m k in
     (follows _ new, holds_after_each law follows rs (row r.event r.reply m).state (counts_of r) new legal.1)
 
+-- the state after a legal list of records is lawful
+lawful_from : (rs : List Record) (m : Machine) (n : Counts) → Lawful m → LegalFrom m n rs → Lawful (state_from m rs)
+unfolding after
+lawful_from [] m n k legal = k
+lawful_from (r ∷ rs) m n k legal = lawful_from rs (row r.event r.reply m).state (counts_of r) (row_lawful r.event legal.0.worded r.reply m k) legal.1
+
+pub lawful_journal : (journal : List Record) → IsLegal journal → Lawful (state_of journal)
+unfolding IsLegal state_of
+lawful_journal journal legal = lawful_from journal opening no_faults opening_lawful legal
+
 pub lawful_is_serial : (m : Machine) → Lawful m → IsSerial m
 lawful_is_serial m k A n p e serial t key = flow_is_serial A B k.inv.out_of_a refl n p e serial t key
 lawful_is_serial m k B n p e serial t key = flow_is_serial B A k.inv.out_of_b refl n p e serial t key
@@ -98,9 +120,12 @@ pub serial_holds : (rs : List Record) → IsLegal rs → HoldsAfterEach IsSerial
 unfolding IsLegal
 serial_holds rs legal = holds_after_each IsSerial lawful_is_serial rs opening no_faults opening_lawful legal
 
+pub lawful_is_quiet : (m : Machine) → Lawful m → IsQuiet m
+lawful_is_quiet m k = sourced_is_quiet m k.inv k.sourced
+
 pub quiet_holds : (rs : List Record) → IsLegal rs → HoldsAfterEach IsQuiet opening rs
 unfolding IsLegal
-quiet_holds rs legal = holds_after_each IsQuiet (λ m k. sourced_is_quiet m k.inv k.sourced) rs opening no_faults opening_lawful legal
+quiet_holds rs legal = holds_after_each IsQuiet lawful_is_quiet rs opening no_faults opening_lawful legal
 
 pub fence_holds : (rs : List Record) → IsLegal rs → (c : Cluster) → IsFenced c false rs
 unfolding IsLegal

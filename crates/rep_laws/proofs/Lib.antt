@@ -40,3 +40,4 @@ pub mod Earliest
 pub mod Fronts
 pub mod FrontPart
 pub mod FrontMoves
+pub mod Cited
