@@ -1,10 +1,9 @@
 -- Entries of a batch stand behind what is recorded or taken before them.
-use Rattle.std.proofs.Common.{ℕ, zero, suc, ◌≤◌, ◌+◌, ◌-◌, ◌≡◌, ◌⊎◌, ◌==◌, ◌&&◌, ◌||◌, inl, inr, nat_le, Bool, true, false, not, List, [], ◌∷◌, ◌++◌, map, drop, length, Option, Some, is_some, refl, ap, sym, ◌∙◌, subst, arith, length-append, append_assoc, append-nil, eqb-true, eq-eqb}
-use Rattle.std.specs.List.{AllByRecursion, filter, list_all, list_any}
+use Rattle.std.proofs.Common.{ℕ, zero, suc, ◌+◌, ◌-◌, ◌≡◌, ◌⊎◌, ◌&&◌, ◌||◌, inl, inr, nat_le, Bool, true, false, not, List, [], ◌∷◌, ◌++◌, drop, length, Some, refl, ap, sym, ◌∙◌, subst, arith, length-append, append_assoc, append-nil, eqb-true, eq-eqb}
+use Rattle.std.specs.List.{AllByRecursion, list_all}
 use Rattle.std.proofs.lemmas.Bool.{cond_both, cond-true, cond-false, and_parts, and_from, or_cases, or_left, or_right, false_from_ne_true, false≢true}
 use Rattle.std.proofs.lemmas.List.{map-append}
 use Rattle.rep_types.specs.declared.ids.Cluster.{Cluster}
-use Rattle.rep_types.specs.declared.entry.EntryId.{EntryId}
 use Rattle.rep_types.specs.declared.state.Kind.{Kind}
 use Rattle.rep_types.specs.declared.state.Kind.TheVariants.{Plain, Serial, Synchronous}
 use Rattle.rep_model.specs.Regions.{overlap}
@@ -14,7 +13,7 @@ use Rattle.rep_model.specs.Queues.{before, is_admitted, taken, queue}
 use Rattle.rep_model.specs.Order.{same_id, has_id, through}
 use Rattle.rep_model.specs.declared.machine.Commit.{Commit}
 use Rattle.rep_model.specs.declared.machine.Peer.{Peer}
-use Rattle.rep_laws.proofs.Lists.{All_weaker, All_both, All_dropped, All_filtered, All_tested, same_id_sound, same_id_refl, has_here, apart, Distinct, mark_refl}
+use Rattle.rep_laws.proofs.Lists.{All_weaker, All_both, All_dropped, All_filtered, All_tested, has_here, apart, Distinct, mark_refl}
 use Rattle.rep_laws.proofs.Behind.{Behind, Comes, Admitted, Stands, one_entry, all_stand, all_past, ids}
 use Rattle.rep_laws.proofs.Committed.{Counted}
 use Rattle.rep_laws.proofs.Flow.{Arrived, start_of, kind_start, has_form}
@@ -29,9 +28,6 @@ same_entry_id c x y h =
 pub same_entry_refl : (x : Commit) → same_entry x x ≡ true
 same_entry_refl x = and_from _ _ (eq-eqb x.region.number x.region.number refl) (eq-eqb x.seq x.seq refl)
 
-same_id_entry : (c : Cluster) (x y : Commit) → same_id (id_of c x) (id_of c y) ≡ true → same_entry x y ≡ true
-same_id_entry c x y h = (and_parts _ _ h).1
-
 entry_same_id : (c : Cluster) (x y : Commit) → same_entry x y ≡ true → same_id (id_of c x) (id_of c y) ≡ true
 entry_same_id c x y h = and_from _ _ (mark_refl c) h
 
@@ -39,10 +35,6 @@ entry_same_id c x y h = and_from _ _ (mark_refl c) h
 pub stands_has : (c : Cluster) (xs : List Commit) (e : Commit) → stands_in xs e ≡ true → has_id (id_of c e) (ids c xs) ≡ true
 stands_has c [] e h = absurd (false≢true h)
 stands_has c (x ∷ xs) e h = elim (or_cases (same_entry e x) (stands_in xs e) h) [ inl a ↦ or_left _ _ (entry_same_id c e x a) | inr b ↦ or_right _ _ (stands_has c xs e b) ]
-
-pub has_stands : (c : Cluster) (xs : List Commit) (e : Commit) → has_id (id_of c e) (ids c xs) ≡ true → stands_in xs e ≡ true
-has_stands c [] e h = absurd (false≢true h)
-has_stands c (x ∷ xs) e h = elim (or_cases (same_id (id_of c e) (id_of c x)) (has_id (id_of c e) (ids c xs)) h) [ inl a ↦ or_left _ _ (same_id_entry c e x a) | inr b ↦ or_right _ _ (has_stands c xs e b) ]
 
 pub stands_in_left : (xs ys : List Commit) (e : Commit) → stands_in xs e ≡ true → stands_in (xs ++ ys) e ≡ true
 stands_in_left [] ys e h = absurd (false≢true h)

@@ -8,7 +8,7 @@ use Rattle.rep_model.specs.Regions.{overlap}
 use Rattle.rep_model.specs.Commits.{id_of, stands_in}
 use Rattle.rep_model.specs.Order.{has_id}
 use Rattle.rep_model.specs.declared.machine.Commit.{Commit}
-use Rattle.rep_laws.proofs.Lists.{All_weaker, has_left, has_here, apart, Distinct}
+use Rattle.rep_laws.proofs.Lists.{All_weaker, has_here, apart, Distinct}
 
 -- S holds of an entry, and Q of what stands before it from start on and overlaps it. R holds of it if it stands from start on itself
 pub record Behind (commits : List Commit) (start : ℕ) (S R Q : Commit → Type 0) : Type 0 where
@@ -112,9 +112,6 @@ ordered_grows c C more start later g seen (i ∷ is) le o = (behind_grows more l
 pub ordered_all : (c : Cluster) (C : List Commit) (g h : Commit → Bool) (seen is : List EntryId) → Ordered c C (length C) g seen is → Ordered c C (length C) h seen is
 ordered_all c C g h seen [] o = tt
 ordered_all c C g h seen (i ∷ is) o = (behind_all o.0, ordered_all c C g h (seen ++ i ∷ []) is o.1)
-
-pub comes_more : (c : Cluster) {C : List Commit} {start : ℕ} {g : Commit → Bool} {i : EntryId} (seen more : List EntryId) → Comes c C start g seen i → Comes c C start g (seen ++ more) i
-comes_more c seen more b = behind_weaker (λ e h f. has_left (id_of c e) seen more (h f)) b
 
 pub ordered_append : (c : Cluster) (C : List Commit) (start : ℕ) (g : Commit → Bool) (seen is js : List EntryId) → Ordered c C start g seen is → Ordered c C start g (seen ++ is) js → Ordered c C start g seen (is ++ js)
 ordered_append c C start g seen [] js o p = subst (λ (w : List EntryId). Ordered c C start g w js) (append-nil seen) p

@@ -1,13 +1,12 @@
 -- What holds of the state after a legal list of records: the laws, and the parts of the invariant, as other crates may cite them.
-use Rattle.std.proofs.Common.{ℕ, zero, suc, ◌≤◌, ◌≡◌, ◌==◌, ◌&&◌, ◌||◌, ◌⊎◌, inl, inr, not, Bool, true, false, List, [], ◌∷◌, ◌++◌, map, filter, drop, length, find, Option, Some, None, is_some, refl, ap, sym, ◌∙◌, subst}
-use Rattle.std.specs.List.{AllByRecursion, list_any, list_all}
-use Rattle.std.proofs.lemmas.Bool.{and_from, or_right, or_left, false≢true}
-use Rattle.std.proofs.lemmas.Option.{same_Some, none-some}
+use Rattle.std.proofs.Common.{ℕ, ◌≡◌, ◌==◌, ◌||◌, ◌⊎◌, inl, inr, not, Bool, true, false, List, [], ◌∷◌, ◌++◌, map, filter, drop, length, find, Some, is_some, refl, ap, sym, ◌∙◌, subst}
+use Rattle.std.specs.List.{AllByRecursion, list_all}
+use Rattle.std.proofs.lemmas.Bool.{or_right, or_left, false≢true}
+use Rattle.std.proofs.lemmas.Option.{same_Some}
 use Rattle.rep_types.specs.declared.ids.Cluster.{Cluster}
 use Rattle.rep_types.specs.declared.ids.Cluster.TheVariants as cluster
 use Rattle.rep_types.specs.declared.entry.EntryId.{EntryId}
-use Rattle.rep_types.specs.declared.state.Kind.{Kind}
-use Rattle.rep_types.specs.declared.state.Kind.TheVariants.{Plain, Serial, Synchronous}
+use Rattle.rep_types.specs.declared.state.Kind.TheVariants.{Serial}
 use Rattle.rep_types.specs.declared.record.Record.{Record}
 use Rattle.rep_model.specs.State.{of, other, is_peer}
 use Rattle.rep_model.specs.Words.{is_paired}
@@ -30,13 +29,13 @@ use Rattle.rep_model.specs.declared.machine.Table.{Table}
 use Rattle.rep_model.specs.declared.machine.RemoteCopy.{RemoteCopy}
 use Rattle.rep_model.specs.declared.machine.Ticket.{Ticket}
 use Rattle.rep_model.specs.declared.machine.Told.TheVariants as told
-use Rattle.rep_laws.proofs.Lists.{In, in_all, in_here, All_weaker, All_found, Distinct, test_all}
-use Rattle.rep_laws.proofs.Behind.{Behind, Admitted, Stands, ids}
+use Rattle.rep_laws.proofs.Lists.{In, in_all, All_weaker, Distinct, test_all}
+use Rattle.rep_laws.proofs.Behind.{Behind, Admitted, ids}
 use Rattle.rep_laws.proofs.Flow.{FlightOk, Recorded, kind_start}
 use Rattle.rep_laws.proofs.Admitting.{before_is, admitted_at, admitted_all_stand}
 use Rattle.rep_laws.proofs.DoesMirror.{stands_within}
 use Rattle.rep_laws.proofs.Inv.{outbound}
-use Rattle.rep_laws.proofs.Synced.{covered, covered_is, kinds}
+use Rattle.rep_laws.proofs.Synced.{covered_is, kinds}
 use Rattle.rep_laws.proofs.SourcedPart.{FairCopy, own_side, one_edit}
 use Rattle.rep_laws.proofs.Repeats.{OneEdit}
 use Rattle.rep_laws.proofs.SoundPart.{is_global, sound_at}

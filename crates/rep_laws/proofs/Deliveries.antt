@@ -1,8 +1,7 @@
 -- Which moves a delivery makes: a commit for each form, and the mark.
-use Rattle.std.proofs.Common.{ℕ, ◌+◌, ◌≡◌, ◌==◌, ◌&&◌, inl, inr, Bool, true, false, not, List, [], ◌∷◌, ◌++◌, map, length, find, Option, Some, None, is_some, is_none, refl, ap, sym, ◌∙◌, subst, append_assoc, append-nil, eq-eqb, cond, if◌then◌else◌}
-use Rattle.std.specs.List.{AllByRecursion}
-use Rattle.std.proofs.lemmas.Bool.{cond_both, cond-true, cond-false, false≢true, or_left, or_right}
-use Rattle.std.proofs.lemmas.Option.{none-some, same_Some}
+use Rattle.std.proofs.Common.{ℕ, ◌+◌, ◌≡◌, ◌==◌, ◌&&◌, Bool, true, not, List, [], ◌∷◌, ◌++◌, find, Option, Some, None, is_some, is_none, refl, ap, sym, ◌∙◌, subst, append_assoc, append-nil, eq-eqb, if◌then◌else◌}
+use Rattle.std.proofs.lemmas.Bool.{cond_both, cond-true, false≢true, or_left, or_right}
+use Rattle.std.proofs.lemmas.Option.{none-some}
 use Rattle.rep_types.specs.Edit.{EditValue}
 use Rattle.rep_types.specs.declared.ids.Cluster.{Cluster}
 use Rattle.rep_types.specs.declared.ids.Cluster.TheVariants as cluster
@@ -25,7 +24,7 @@ use Rattle.rep_model.specs.Peers.{is_standby}
 use Rattle.rep_model.specs.Places.{Seat, seat, lacks_room, located_number, capped, used}
 use Rattle.rep_model.specs.Tickets.{acks}
 use Rattle.rep_model.specs.LogEvents.{synced_with, emptied, broken_by}
-use Rattle.rep_model.specs.QueueEvents.{flight_forms, Delivery, arrival, stopped, Failing, failing, arrives, delivered, with_delivered, delivery_of, deliver_row}
+use Rattle.rep_model.specs.QueueEvents.{Delivery, arrival, stopped, Failing, failing, delivered, with_delivered, delivery_of, deliver_row}
 use Rattle.rep_model.specs.Row.{Row}
 use Rattle.rep_model.specs.declared.machine.Machine.{Machine}
 use Rattle.rep_model.specs.declared.machine.Side.{Side}
@@ -39,8 +38,8 @@ use Rattle.rep_laws.proofs.Lists.{In, All_append, All_weaker, All_found, found_i
 use Rattle.rep_laws.proofs.Flow.{Arrived, has_form}
 use Rattle.rep_laws.proofs.Committed.{came, through_append, numbered}
 use Rattle.rep_laws.proofs.Sides.{of_with, flights_with, twice, other_paired, settled_is, committed, committed_commits, told_after}
-use Rattle.rep_laws.proofs.Moves.{Whence, Came, Move, Marks, Moves, Still, Then, one, and_then}
-use Rattle.rep_laws.proofs.Steps.{Does, first_does, given_does, still_does, given_moves, broken_moves, synced_moves}
+use Rattle.rep_laws.proofs.Moves.{Whence, Came, Marks, Moves, Still, one, and_then}
+use Rattle.rep_laws.proofs.Steps.{Does, first_does, given_does, still_does, broken_moves, synced_moves}
 use Rattle.rep_laws.proofs.DoesLogs.{Seated, seated, placed_by}
 use Rattle.rep_laws.proofs.DoesQueues.{AllPaired}
 

@@ -1,9 +1,8 @@
 -- Which moves the events of servers and logs make: server, put, sync, roll, crash, seal.
-use Rattle.std.proofs.Common.{ℕ, zero, suc, ◌+◌, ◌-◌, ◌≡◌, ◌==◌, ◌&&◌, inl, inr, Bool, true, false, not, min, List, [], ◌∷◌, ◌++◌, map, length, take, find, nat_le, Option, Some, None, is_some, is_none, slice_get, refl, ap, sym, ◌∙◌, subst, arith}
-use Rattle.std.specs.List.{AllByRecursion, list_all}
-use Rattle.std.proofs.lemmas.Bool.{cond_both, and_parts, not-false}
-use Rattle.std.proofs.lemmas.List.{map-append}
-use Rattle.std.proofs.lemmas.Option.{none-some, same_Some}
+use Rattle.std.proofs.Common.{ℕ, ◌+◌, ◌-◌, ◌≡◌, ◌==◌, ◌&&◌, Bool, true, false, not, min, List, [], ◌∷◌, ◌++◌, map, length, take, find, Some, is_some, is_none, slice_get, refl, ap, sym, ◌∙◌, subst, arith}
+use Rattle.std.specs.List.{list_all}
+use Rattle.std.proofs.lemmas.Bool.{and_parts, not-false}
+use Rattle.std.proofs.lemmas.Option.{same_Some}
 use Rattle.rep_types.specs.declared.ids.Cluster.{Cluster}
 use Rattle.rep_types.specs.declared.ids.Cluster.TheVariants as cluster
 use Rattle.rep_types.specs.declared.cell.Cell.{Cell}
@@ -12,16 +11,15 @@ use Rattle.rep_types.specs.declared.state.Call.{Call}
 use Rattle.rep_types.specs.declared.state.Call.TheVariants as call
 use Rattle.rep_types.specs.declared.refusal.Refusal.TheVariants as refusal
 use Rattle.rep_types.specs.declared.reply.Reply.{Reply}
-use Rattle.rep_model.specs.Keyed.{given, if_some, replace}
+use Rattle.rep_model.specs.Keyed.{if_some, replace}
 use Rattle.rep_model.specs.State.{of, with, is_server, server_of, with_server}
 use Rattle.rep_model.specs.Words.{is_paired, are_cells}
 use Rattle.rep_model.specs.Regions.{holds}
-use Rattle.rep_model.specs.Changes.{takes_pending}
 use Rattle.rep_model.specs.Commits.{settled}
 use Rattle.rep_model.specs.Copies.{make_copy}
 use Rattle.rep_model.specs.Places.{Seat, seat, located, serves, on_at, table_of, is_named, after_death}
 use Rattle.rep_model.specs.Tickets.{with_ticket, tell_waiting, doubt_pending}
-use Rattle.rep_model.specs.LogEvents.{new_server, server_queues, server_added, server_row, put_row, put_edit, put_refusals, own_pending, pended, broken_by, has_family, sync_row, live_refusals, log_of, broken, roll_row, next_log, is_dual, is_fenced, copy_sites, kept_of, pending_of, crash_row, seal_row}
+use Rattle.rep_model.specs.LogEvents.{server_added, server_row, put_row, put_edit, put_refusals, own_pending, pended, has_family, sync_row, live_refusals, log_of, broken, roll_row, next_log, is_dual, is_fenced, copy_sites, kept_of, pending_of, crash_row, seal_row}
 use Rattle.rep_model.specs.Row.{site, fault_among}
 use Rattle.rep_model.specs.declared.machine.Machine.{Machine}
 use Rattle.rep_model.specs.declared.machine.Side.{Side}
@@ -32,11 +30,11 @@ use Rattle.rep_model.specs.declared.machine.Region.{Region}
 use Rattle.rep_model.specs.declared.machine.Table.{Table}
 use Rattle.rep_model.specs.declared.machine.Ticket.{Ticket}
 use Rattle.rep_model.specs.declared.machine.Told.TheVariants as told
-use Rattle.rep_laws.proofs.Lists.{In, All_append, All_weaker, All_taken, All_mapped, all_in, found_in, found_passes}
+use Rattle.rep_laws.proofs.Lists.{In, All_append, All_taken, All_mapped, found_in, found_passes}
 use Rattle.rep_laws.proofs.Finding.{All_replaced}
 use Rattle.rep_laws.proofs.Keys.{bytes_same}
 use Rattle.rep_laws.proofs.Sides.{of_tickets, tickets_with}
-use Rattle.rep_laws.proofs.Moves.{Whence, Waited, Own, AllWhence, IsPut, IsPlaced, IsOf, clusters, Move, Gives, Serves, Hosts, Same, Settles, Moves, Still, Then, one, and_then}
+use Rattle.rep_laws.proofs.Moves.{Own, AllWhence, IsPut, IsPlaced, clusters, Gives, Serves, Hosts, Same, Settles, Moves, Still, one, and_then}
 use Rattle.rep_laws.proofs.Steps.{Does, first_does, fault_does, simple_does, given_does, still_does, given_moves, if_some_true, not_none, not_some, numbers_replaced, given_some, waited, all_waited, all_placed, own_whence, server_moves, broken_moves, synced_moves, make_copy_moves, doubt_moves, end_moves}
 
 -- server
@@ -97,10 +95,6 @@ seated c table row m x e =
 
 pub placed_by : (c : Cluster) (table : List ℕ) (m : Machine) (x : Seat) → Seated c table m x → (h : Hosted) × In h (of c m).regions × (x.region.table ≡ h.region.table)
 placed_by c table m x s = (s.hosted, s.there, ap (λ (r : Region). r.table) s.region)
-
-slot_end : {X : Type 0} (xs : List X) (x : X) → slice_get (xs ++ x ∷ []) (length xs) ≡ Some x
-slot_end [] x = refl
-slot_end (y ∷ xs) x = slot_end xs x
 
 last_slot : (ts : List Ticket) (t : Ticket) → slice_get (clusters (ts ++ t ∷ [])) (length ts + 1 - 1) ≡ Some t.cluster
 last_slot ts t =

@@ -1,21 +1,18 @@
 -- Which moves a mirror makes: a copy is offered the rest of its log, and the tickets that wait for it end.
-use Rattle.std.proofs.Common.{ℕ, ◌≡◌, ◌==◌, ◌&&◌, inl, inr, Bool, true, false, not, List, [], ◌∷◌, ◌++◌, map, take, reverse, filter, length, find, Option, Some, None, is_none, ◌||◌, refl, ap, sym, ◌∙◌, subst, take_all, le_refl, eq-eqb, eqb-true, cond, if◌then◌else◌}
-use Rattle.std.specs.List.{AllByRecursion}
+use Rattle.std.proofs.Common.{ℕ, ◌≡◌, ◌==◌, ◌&&◌, inl, inr, Bool, true, false, not, List, [], ◌∷◌, ◌++◌, reverse, length, Some, is_none, ◌||◌, refl, ap, sym, ◌∙◌, subst, take_all, le_refl, eq-eqb, eqb-true, if◌then◌else◌}
 use Rattle.std.proofs.lemmas.Bool.{cond_both, and_parts, and_from, or_left, or_right, cases_Bool, not_from_false, not-false, true≢false}
 use Rattle.std.proofs.lemmas.List.{map-append, reverse-append, reverse-reverse}
 use Rattle.rep_types.specs.declared.ids.Cluster.{Cluster}
 use Rattle.rep_types.specs.declared.ids.Cluster.TheVariants as cluster
-use Rattle.rep_types.specs.declared.entry.EntryId.{EntryId}
 use Rattle.rep_types.specs.declared.state.Call.TheVariants as call
 use Rattle.rep_types.specs.declared.refusal.Refusal.TheVariants as refusal
 use Rattle.rep_types.specs.declared.reply.Reply.{Reply}
-use Rattle.rep_types.specs.declared.reply.Reply.TheVariants as reply
-use Rattle.rep_model.specs.Keyed.{given, if_some}
+use Rattle.rep_model.specs.Keyed.{if_some}
 use Rattle.rep_model.specs.State.{of, with, other, mark, server_of, with_link}
 use Rattle.rep_model.specs.Words.{is_paired}
 use Rattle.rep_model.specs.Order.{has_id}
 use Rattle.rep_model.specs.Commits.{id_of, stands_in, log_commits}
-use Rattle.rep_model.specs.Copies.{is_copy, copy_of, unoffered, with_copy}
+use Rattle.rep_model.specs.Copies.{is_copy, unoffered, with_copy}
 use Rattle.rep_model.specs.Tickets.{tell_waiting}
 use Rattle.rep_model.specs.LogEvents.{live_refusals, log_of}
 use Rattle.rep_model.specs.PeerEvents.{current_copy, is_standing, mirror_row}
@@ -23,7 +20,6 @@ use Rattle.rep_model.specs.Row.{Site, site, fault_among}
 use Rattle.rep_model.specs.declared.machine.Machine.{Machine}
 use Rattle.rep_model.specs.declared.machine.Side.{Side}
 use Rattle.rep_model.specs.declared.machine.Commit.{Commit}
-use Rattle.rep_model.specs.declared.machine.Link.{Link}
 use Rattle.rep_model.specs.declared.machine.RemoteCopy.{RemoteCopy}
 use Rattle.rep_model.specs.declared.machine.Ticket.{Ticket}
 use Rattle.rep_model.specs.declared.machine.Told.{Told}
@@ -32,7 +28,7 @@ use Rattle.rep_laws.proofs.Lists.{In, in_left, in_right, in_here, in_filtered, f
 use Rattle.rep_laws.proofs.Behind.{Stands, ids}
 use Rattle.rep_laws.proofs.Admitting.{stands_has}
 use Rattle.rep_laws.proofs.Sides.{of_with}
-use Rattle.rep_laws.proofs.Moves.{HoldsLog, WhyTold, StillTold, NowSaved, Retold, confirmed_ids, offered_all, finished, Move, Tells, Offers, Moves, Still, Then, one}
+use Rattle.rep_laws.proofs.Moves.{HoldsLog, WhyTold, StillTold, NowSaved, Retold, confirmed_ids, offered_all, finished, Tells, Offers, Moves, Still, Then, one}
 use Rattle.rep_laws.proofs.Steps.{Does, first_does, fault_does, given_does, still_does, given_some, ended}
 
 in_reverse : {X : Type 0} (x : X) (xs : List X) → In x xs → In x (reverse xs)
@@ -69,9 +65,6 @@ new_copy c k m = finished true (offered_all (of c m).commits k)
 
 abbrev made : Cluster → RemoteCopy → Machine → Machine
 made c k m = with_link (other c) (record (of (other c) m).link { copies = with_copy (new_copy c k m) (of (other c) m).link.copies }) m
-
-same_key : (k : RemoteCopy) → ((k.server == k.server) && (k.log == k.log)) && (k.folder == k.folder) ≡ true
-same_key k = and_from _ _ (and_from _ _ (eq-eqb k.server k.server refl) (eq-eqb k.log k.log refl)) (eq-eqb k.folder k.folder refl)
 
 -- a copy of one key comes in the place of the first of this key
 pub placed_in : (new k : RemoteCopy) (ks : List RemoteCopy) → new.server ≡ k.server → new.log ≡ k.log → new.folder ≡ k.folder → In k ks → In new (with_copy new ks)

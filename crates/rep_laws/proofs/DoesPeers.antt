@@ -1,8 +1,8 @@
--- Which moves the events of peers and of changes make: peer, enable, disable, remove, makeserial, sweepremote, transitbegin, transitend, makefolder, promotebegin, replay, promoteend.
-use Rattle.std.proofs.Common.{ℕ, ◌+◌, ◌≤◌, ◌≡◌, ◌==◌, ◌&&◌, ◌||◌, inl, inr, Bool, true, false, not, List, [], ◌∷◌, ◌++◌, map, filter, drop, length, find, nat_le, nat_lt, Option, Some, None, is_some, is_none, refl, ap, sym, ◌∙◌, subst, arith, le_refl, if◌then◌else◌}
+-- Which moves the events of peers, of changes of state and of promotions make.
+use Rattle.std.proofs.Common.{ℕ, ◌≤◌, ◌≡◌, ◌==◌, ◌&&◌, ◌||◌, inl, inr, Bool, true, false, not, List, [], ◌∷◌, drop, length, nat_le, nat_lt, Option, Some, None, is_some, is_none, refl, ap, sym, ◌∙◌, subst, le_refl, if◌then◌else◌}
 use Rattle.std.specs.List.{AllByRecursion, list_any}
-use Rattle.std.proofs.lemmas.Bool.{cond_both, cond-true, and_parts, and_left, and_right, or_parts, not-false, not_from_true, false≢true, true≢false, leb-true}
-use Rattle.std.proofs.lemmas.Option.{none-some, same_Some}
+use Rattle.std.proofs.lemmas.Bool.{cond_both, and_parts, and_right, or_parts, not-false, false≢true, leb-true}
+use Rattle.std.proofs.lemmas.Option.{none-some}
 use Rattle.rep_types.specs.declared.ids.Cluster.{Cluster}
 use Rattle.rep_types.specs.declared.state.Kind.{Kind}
 use Rattle.rep_types.specs.declared.state.SyncState.{SyncState}
@@ -15,10 +15,10 @@ use Rattle.rep_types.specs.declared.refusal.Refusal.{Refusal}
 use Rattle.rep_types.specs.declared.refusal.Refusal.TheVariants as refusal
 use Rattle.rep_types.specs.declared.reply.Reply.{Reply}
 use Rattle.rep_model.specs.Keyed.{given, if_some}
-use Rattle.rep_model.specs.State.{of, with, other, is_peer, server_of, with_peer, with_link}
+use Rattle.rep_model.specs.State.{of, with, other, server_of, with_peer}
 use Rattle.rep_model.specs.Words.{is_paired}
 use Rattle.rep_model.specs.Commits.{stands_in, log_commits}
-use Rattle.rep_model.specs.Copies.{lowest_copy, without_copy}
+use Rattle.rep_model.specs.Copies.{lowest_copy}
 use Rattle.rep_model.specs.Peers.{is_serial, is_synchronous, is_removed, is_absent, is_active, is_standby, is_idle, peer_of}
 use Rattle.rep_model.specs.Tickets.{tell_waiting}
 use Rattle.rep_model.specs.LogEvents.{kept_of}
@@ -28,9 +28,7 @@ use Rattle.rep_model.specs.Row.{site, run_sites}
 use Rattle.rep_model.specs.declared.machine.Machine.{Machine}
 use Rattle.rep_model.specs.declared.machine.Side.{Side}
 use Rattle.rep_model.specs.declared.machine.Commit.{Commit}
-use Rattle.rep_model.specs.declared.machine.Server.{Server}
 use Rattle.rep_model.specs.declared.machine.Peer.{Peer}
-use Rattle.rep_model.specs.declared.machine.Queue.{Queue}
 use Rattle.rep_model.specs.declared.machine.Link.{Link}
 use Rattle.rep_model.specs.declared.machine.RemoteCopy.{RemoteCopy}
 use Rattle.rep_model.specs.declared.machine.Standing.{Standing}
@@ -39,10 +37,10 @@ use Rattle.rep_model.specs.declared.machine.Ticket.{Ticket}
 use Rattle.rep_model.specs.declared.machine.Told.{Told}
 use Rattle.rep_model.specs.declared.machine.Told.TheVariants as told
 use Rattle.rep_laws.proofs.Flow.{peer_at}
-use Rattle.rep_laws.proofs.SerialPart.{found_number, found_again}
+use Rattle.rep_laws.proofs.SerialPart.{found_again}
 use Rattle.rep_laws.proofs.Sides.{of_with, tickets_with}
-use Rattle.rep_laws.proofs.Moves.{Spares, IsChange, IsCovering, claims, Move, Tells, Phases, Sweeps, MakesFolder, Begins, Replays, Drops, AddsPeer, MakesSerial, SetsStanding, Restarts, Moves, Still, Then, one, and_then}
-use Rattle.rep_laws.proofs.Steps.{Does, simple_does, given_does, still_does, given_moves, if_some_false, not_some, not_none, end_moves}
+use Rattle.rep_laws.proofs.Moves.{Spares, IsChange, IsCovering, claims, Phases, Sweeps, MakesFolder, Begins, Replays, Drops, AddsPeer, MakesSerial, SetsStanding, Restarts, Moves, Still, one, and_then}
+use Rattle.rep_laws.proofs.Steps.{Does, simple_does, given_does, still_does, given_moves, if_some_false, not_some, end_moves}
 
 -- peers
 

@@ -1,49 +1,30 @@
 -- Which moves the events of queues and flights make: send, deliver, lose, confirm, claim.
-use Rattle.std.proofs.Common.{ℕ, ◌+◌, ◌≡◌, ◌==◌, ◌&&◌, inl, inr, Bool, true, false, not, List, [], ◌∷◌, ◌++◌, map, length, find, Option, Some, None, is_some, is_none, refl, ap, sym, ◌∙◌, subst, append_assoc, append-nil}
+use Rattle.std.proofs.Common.{ℕ, ◌≡◌, Bool, true, not, List, [], ◌∷◌, ◌++◌, find, Option, Some, None, is_some, is_none, refl, ap, sym, ◌∙◌, subst}
 use Rattle.std.specs.List.{AllByRecursion}
-use Rattle.std.proofs.lemmas.Bool.{cond_both, cond-true, not-false, false≢true, and_parts, eqb-true}
+use Rattle.std.proofs.lemmas.Bool.{not-false, false≢true, and_parts, eqb-true}
 use Rattle.std.proofs.lemmas.Option.{none-some, same_Some}
-use Rattle.rep_types.specs.Edit.{EditValue}
 use Rattle.rep_types.specs.declared.ids.Cluster.{Cluster}
-use Rattle.rep_types.specs.declared.ids.Cluster.TheVariants as cluster
-use Rattle.rep_types.specs.declared.entry.EntryKind.TheVariants as kind
 use Rattle.rep_types.specs.declared.state.Call.TheVariants as call
-use Rattle.rep_types.specs.declared.refusal.Refusal.{Refusal}
 use Rattle.rep_types.specs.declared.refusal.Refusal.TheVariants as refusal
-use Rattle.rep_types.specs.declared.reply.Cause.{Cause}
-use Rattle.rep_types.specs.declared.reply.Cause.TheVariants as cause
 use Rattle.rep_types.specs.declared.reply.Reply.{Reply}
-use Rattle.rep_model.specs.Keyed.{given, if_some, replace}
-use Rattle.rep_model.specs.State.{of, with, other, is_peer, is_queue, is_flight, server_of, flight_of, queue_of, with_peer, with_queue}
+use Rattle.rep_model.specs.Keyed.{given, if_some}
+use Rattle.rep_model.specs.State.{of, is_peer, is_queue, is_flight, server_of, flight_of, queue_of, with_peer, with_queue}
 use Rattle.rep_model.specs.Words.{is_paired}
-use Rattle.rep_model.specs.Commits.{id_of, settled}
-use Rattle.rep_model.specs.Frames.{frame_length}
-use Rattle.rep_model.specs.Forms.{form, forms, with_form}
-use Rattle.rep_model.specs.Order.{has_id, through}
-use Rattle.rep_model.specs.Peers.{is_standby, peer_of}
-use Rattle.rep_model.specs.Places.{Seat, seat, located_number, capped, used, lacks_room}
-use Rattle.rep_model.specs.LogEvents.{synced_with, broken_by, emptied}
-use Rattle.rep_model.specs.QueueEvents.{flown, owner_lives, owner_of, flight_out, send_refusals, held_refusal, new_flight, next_flight, flight_forms, send_batch, send_row, Delivery, arrival, stopped, Failing, failing, arrives, delivered, with_delivered, delivery_of, deliver_row, flight_queue, is_out, landed, lose_row, recorded, confirm_refusals, confirm_row, claim_row}
+use Rattle.rep_model.specs.Peers.{peer_of}
+use Rattle.rep_model.specs.QueueEvents.{flown, owner_lives, owner_of, flight_out, send_refusals, held_refusal, next_flight, send_row, flight_queue, is_out, lose_row, recorded, confirm_refusals, confirm_row, claim_row}
 use Rattle.rep_model.specs.Queues.{batch}
 use Rattle.rep_model.specs.Row.{site, fault_among}
 use Rattle.rep_model.specs.declared.machine.Machine.{Machine}
 use Rattle.rep_model.specs.declared.machine.Side.{Side}
 use Rattle.rep_model.specs.declared.machine.Commit.{Commit}
-use Rattle.rep_model.specs.declared.machine.Pending.{Pending}
-use Rattle.rep_model.specs.declared.machine.Hosted.{Hosted}
-use Rattle.rep_model.specs.declared.machine.Server.{Server}
 use Rattle.rep_model.specs.declared.machine.Peer.{Peer}
 use Rattle.rep_model.specs.declared.machine.Queue.{Queue}
-use Rattle.rep_model.specs.declared.machine.Form.{Form}
 use Rattle.rep_model.specs.declared.machine.Flight.{Flight}
-use Rattle.rep_laws.proofs.Lists.{In, All_append, All_weaker, All_found, found_in, found_passes}
-use Rattle.rep_laws.proofs.Flow.{Arrived, has_form, peer_at}
-use Rattle.rep_laws.proofs.SerialPart.{found_again, found_number}
-use Rattle.rep_laws.proofs.Committed.{came, through_append, numbered}
-use Rattle.rep_laws.proofs.Sides.{of_with, flights_with, of_flights, other_with, other_paired, twice, settled_is, committed, committed_commits}
-use Rattle.rep_laws.proofs.Moves.{flown_off, Move, Lands, Flies, Notes, Moves, Still, Then, one}
+use Rattle.rep_laws.proofs.Lists.{All_found, found_passes}
+use Rattle.rep_laws.proofs.SerialPart.{found_number}
+use Rattle.rep_laws.proofs.Sides.{of_with, of_flights}
+use Rattle.rep_laws.proofs.Moves.{flown_off, Lands, Flies, Notes, Moves, Still, one}
 use Rattle.rep_laws.proofs.Steps.{Does, unless_does, first_does, fault_does, simple_does, given_does, still_does, given_moves, if_some_true, not_none}
-use Rattle.rep_laws.proofs.DoesLogs.{Seated, seated, placed_by}
 use Rattle.rep_laws.proofs.DoesPeers.{peer_here, peer_there}
 
 -- each flight is of one of the two clusters
@@ -125,8 +106,10 @@ confirm_does {may} k said m pairs = first_does (confirm_refusals k (flight_of k 
     let q = queue_out k (flight_queue f m) out in
     let there = peer_there f.cluster f.peer m x.0 x.1 in
     fault_does (fault_among (site f.cluster call.Put ∷ []) said) said (λ _. Still)
-    (record { moves = subst (Moves may m) (confirm_is f.cluster k f.peer f.server f.entries x.0 q.0 m there q.1)
-    (one (Notes f x.0 q.0 (ap (λ n. flight_of n m) number ∙ e) pair there delivered q.1 (q.2 ∙ ap (λ n. Some n) (sym number)))) })))
+    (record {
+      moves = subst (Moves may m) (confirm_is f.cluster k f.peer f.server f.entries x.0 q.0 m there q.1)
+          (one (Notes f x.0 q.0 (ap (λ n. flight_of n m) number ∙ e) pair there delivered q.1 (q.2 ∙ ap (λ n. Some n) (sym number))));
+    })))
 
 pub claim_does : {may : Cluster → Bool} (c : Cluster) → is_paired c ≡ true → (by s p : ℕ) (said : Reply) (m : Machine) → Does may m (claim_row c by s p said m)
 unfolding claim_row

@@ -1,8 +1,8 @@
 -- Which moves the events of tables and regions make: table, openbegin, openend, closebegin, closeend, recover, flush, compact, split, merge, sweep.
-use Rattle.std.proofs.Common.{ℕ, ◌+◌, ◌-◌, ◌≡◌, ◌==◌, ◌&&◌, ◌||◌, inl, inr, Bool, true, false, not, List, [], ◌∷◌, ◌++◌, map, length, find, nat_le, nat_lt, Option, Some, None, is_some, is_none, refl, ap, sym, ◌∙◌, subst}
-use Rattle.std.specs.List.{AllByRecursion, list_all}
-use Rattle.std.proofs.lemmas.Bool.{and_parts, not-false, cond-true}
-use Rattle.std.proofs.lemmas.Option.{none-some, same_Some}
+use Rattle.std.proofs.Common.{ℕ, ◌+◌, ◌≡◌, ◌||◌, inl, inr, Bool, true, not, List, [], ◌∷◌, ◌++◌, find, Option, Some, None, is_some, is_none, refl, sym, ◌∙◌, subst}
+use Rattle.std.specs.List.{AllByRecursion}
+use Rattle.std.proofs.lemmas.Bool.{and_parts, cond-true}
+use Rattle.std.proofs.lemmas.Option.{same_Some}
 use Rattle.rep_types.specs.declared.ids.Cluster.{Cluster}
 use Rattle.rep_types.specs.declared.ids.Cluster.TheVariants as cluster
 use Rattle.rep_types.specs.declared.table.Family.{Family}
@@ -16,23 +16,22 @@ use Rattle.rep_types.specs.declared.refusal.Refusal.{Refusal}
 use Rattle.rep_types.specs.declared.refusal.Refusal.TheVariants as refusal
 use Rattle.rep_types.specs.declared.reply.Reply.{Reply}
 use Rattle.rep_model.specs.Keyed.{given, if_some, replace}
-use Rattle.rep_model.specs.State.{of, with, is_server, is_region, server_of, region_of, with_server, with_region}
+use Rattle.rep_model.specs.State.{of, with, is_server, is_region, server_of, region_of, with_region}
 use Rattle.rep_model.specs.Words.{is_paired, are_families}
 use Rattle.rep_model.specs.Regions.{is_adjacent}
 use Rattle.rep_model.specs.Places.{is_off, opens_at, on_at, closes_at, lost_at, is_named, table_of, is_closed}
 use Rattle.rep_model.specs.Needs.{log_needer}
 use Rattle.rep_model.specs.LogEvents.{own_pending, broken_by, emptied, synced_with}
-use Rattle.rep_model.specs.RegionEvents.{hosted, next_region, too_many, table_row, place_of, moved, barrier, opened, open_begin_row, Marking, marking, marker_refusals, marked_at, open_end_row, close_begin_row, close_end_row, flushed, recover_row, flush_row, compact_row, splits, split_row, merge_row, has_no_log, sweep_row}
+use Rattle.rep_model.specs.RegionEvents.{hosted, too_many, table_row, place_of, moved, barrier, opened, open_begin_row, Marking, marking, marker_refusals, marked_at, open_end_row, close_begin_row, close_end_row, flushed, recover_row, flush_row, compact_row, splits, split_row, merge_row, has_no_log, sweep_row}
 use Rattle.rep_model.specs.Row.{site, run_sites, fault_among}
 use Rattle.rep_model.specs.declared.machine.Machine.{Machine}
 use Rattle.rep_model.specs.declared.machine.Table.{Table}
 use Rattle.rep_model.specs.declared.machine.Hosted.{Hosted}
-use Rattle.rep_model.specs.declared.machine.Server.{Server}
 use Rattle.rep_model.specs.declared.machine.Region.{Region}
-use Rattle.rep_laws.proofs.Lists.{In, All_append, All_weaker, All_tested, test_all, all_in, found_in, found_passes}
+use Rattle.rep_laws.proofs.Lists.{In, All_append, All_weaker, found_in}
 use Rattle.rep_laws.proofs.Finding.{All_replaced, find_first}
 use Rattle.rep_laws.proofs.Keys.{bytes_refl}
-use Rattle.rep_laws.proofs.Moves.{IsOf, Grown, Same, More, is_scoped, Move, Hosts, Settles, Moves, Still, Then, one}
+use Rattle.rep_laws.proofs.Moves.{Same, More, is_scoped, Hosts, Settles, Moves, one}
 use Rattle.rep_laws.proofs.Steps.{Does, first_does, fault_does, simple_does, given_does, still_does, given_moves, given_some, not_some, numbers_replaced, waited, all_waited, all_placed, own_whence, server_moves, region_moves, broken_moves, synced_moves}
 use Rattle.rep_laws.proofs.DoesLogs.{server_in}
 

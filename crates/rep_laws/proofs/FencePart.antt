@@ -1,8 +1,8 @@
 -- A folder stands only once it is made: each move but that keeps that none stands. And from the beginning of a promotion on no mirror is answered.
 use Rattle.std.proofs.Common.{ℕ, ◌≡◌, ◌==◌, ◌&&◌, ◌||◌, not, ◌⊎◌, inl, inr, Bool, true, false, List, [], ◌∷◌, ◌++◌, Option, Some, None, is_none, length, filter, ◌+◌, if◌then◌else◌, refl, ap, sym, ◌∙◌, subst}
-use Rattle.std.specs.List.{AllByRecursion, list_any}
-use Rattle.std.proofs.lemmas.Bool.{cond_both, and_right, and_parts, or_cases, cases_Bool, not-true, not-false, false≢true, true≢false}
-use Rattle.std.proofs.lemmas.Option.{none-some, same_Some}
+use Rattle.std.specs.List.{list_any}
+use Rattle.std.proofs.lemmas.Bool.{cond_both, and_right, and_parts, or_cases, cases_Bool, not-true, false≢true}
+use Rattle.std.proofs.lemmas.Option.{none-some}
 use Rattle.rep_types.specs.declared.ids.Cluster.{Cluster}
 use Rattle.rep_types.specs.declared.ids.Cluster.TheVariants.{A, B, C}
 use Rattle.rep_model.specs.Keyed.{given}
@@ -157,7 +157,7 @@ simple_cases refusals sites said m row = by_refusal (first refusals)
     by_refusal None = by_fault (fault_among sites said)
     by_refusal (Some why) = inl refl
 
-nothing_stands : (folder : Option ℕ) (k : RemoteCopy) → folder ≡ None → is_standing folder k ≡ true → ⊥
+pub nothing_stands : (folder : Option ℕ) (k : RemoteCopy) → folder ≡ None → is_standing folder k ≡ true → ⊥
 unfolding given
 nothing_stands None k e h = false≢true h
 nothing_stands (Some f) k e h = none-some f (sym e)

@@ -1,15 +1,14 @@
 -- Each move keeps the fronts: what a launch, a confirmation, a new peer and a restart do.
-use Rattle.std.proofs.Common.{ℕ, zero, suc, ◌+◌, ◌≤◌, ◌<◌, ◌≡◌, ◌==◌, ◌&&◌, ◌||◌, ◌⊎◌, inl, inr, not, Bool, true, false, cond, List, [], ◌∷◌, ◌++◌, map, filter, length, find, Option, Some, None, option_map, refl, ap, sym, ◌∙◌, subst, arith, eqb-true, eq-eqb, ne_eqb, length-append, if◌then◌else◌, le_refl}
+use Rattle.std.proofs.Common.{ℕ, suc, ◌+◌, ◌≤◌, ◌≡◌, ◌==◌, inl, inr, not, Bool, true, false, List, [], ◌∷◌, ◌++◌, map, length, find, Some, None, option_map, refl, ap, sym, ◌∙◌, subst, arith, eqb-true, eq-eqb, ne_eqb, length-append, if◌then◌else◌, le_refl}
 use Rattle.std.specs.List.{AllByRecursion}
-use Rattle.std.proofs.lemmas.Bool.{cond_both, cond-true, cond-false, and_parts, and_from, false≢true, true≢false, cases_Bool, cases_eq, eqb-false, not-true}
+use Rattle.std.proofs.lemmas.Bool.{cond_both, cond-true, cond-false, true≢false, cases_Bool, cases_eq, eqb-false, not-true}
 use Rattle.std.proofs.lemmas.List.{map-append}
 use Rattle.std.proofs.lemmas.Option.{none-some, same_Some}
 use Rattle.rep_types.specs.declared.ids.Cluster.{Cluster}
 use Rattle.rep_types.specs.declared.ids.Cluster.TheVariants as cluster
-use Rattle.rep_types.specs.declared.state.Kind.{Kind}
 use Rattle.rep_types.specs.declared.state.Kind.TheVariants.{Serial}
 use Rattle.rep_model.specs.Keyed.{replace}
-use Rattle.rep_model.specs.State.{of, with, other, is_server, is_peer, is_queue, is_flight, queue_of, with_peer, with_queue}
+use Rattle.rep_model.specs.State.{of, with, other, is_peer, is_queue, is_flight, queue_of, with_peer, with_queue}
 use Rattle.rep_model.specs.Words.{is_paired}
 use Rattle.rep_model.specs.Queues.{queue, batch}
 use Rattle.rep_model.specs.Peers.{is_synchronous}
@@ -23,17 +22,17 @@ use Rattle.rep_model.specs.declared.machine.Server.{Server}
 use Rattle.rep_model.specs.declared.machine.Peer.{Peer}
 use Rattle.rep_model.specs.declared.machine.Queue.{Queue}
 use Rattle.rep_model.specs.declared.machine.Flight.{Flight}
-use Rattle.rep_laws.proofs.Lists.{In, in_left, in_right, in_all, All_weaker, All_append, All_filtered, All_found, All_mapped, Distinct, found_in, found_passes}
+use Rattle.rep_laws.proofs.Lists.{In, in_left, in_right, All_weaker, All_append, All_filtered, All_found, All_mapped, Distinct, found_in, found_passes}
 use Rattle.rep_laws.proofs.Finding.{All_replaced, find_replaced, find_elsewhere, find_more, find_first, find_changed}
 use Rattle.rep_laws.proofs.Behind.{ids, Stands}
-use Rattle.rep_laws.proofs.Committed.{Counted, numbered, counted_committed}
-use Rattle.rep_laws.proofs.Flow.{Recorded, peer_at}
+use Rattle.rep_laws.proofs.Committed.{numbered, counted_committed}
+use Rattle.rep_laws.proofs.Flow.{peer_at}
 use Rattle.rep_laws.proofs.SerialPart.{restarted, restart_number, found_number, found_again}
-use Rattle.rep_laws.proofs.Sides.{of_with, of_flights, settled_side, other_paired}
+use Rattle.rep_laws.proofs.Sides.{of_flights, settled_side, other_paired}
 use Rattle.rep_laws.proofs.Synced.{map_replaced, map_same}
 use Rattle.rep_laws.proofs.Inv.{Inv, outbound}
 use Rattle.rep_laws.proofs.Fronts.{PeerFront, batch_first, noted, queue_elsewhere, queue_server, front_noted, front_at_end}
-use Rattle.rep_laws.proofs.FrontPart.{peer_numbers, FlightOut, Outstanding, ApartQueues, UniqueQueues, Different, FrontSide, FrontIn, Fronted, front_at, fronted_with, fronted_tickets, requeued, unique_replaced, replaced_apart, unique_filtered, unique_joined, without_flight, landed_side, different_pushed, number_absent, peer_absent, peer_queues_all, all_of, peer_queues_unique, all_numbers, served_side, grown_side, SameFlight, flights_side, peers_side, peer_side}
+use Rattle.rep_laws.proofs.FrontPart.{peer_numbers, FlightOut, Outstanding, ApartQueues, UniqueQueues, Different, FrontSide, FrontIn, Fronted, front_at, fronted_with, fronted_tickets, requeued, unique_replaced, replaced_apart, unique_filtered, unique_joined, without_flight, landed_side, different_pushed, number_absent, peer_absent, peer_queues_all, all_of, peer_queues_unique, all_numbers, all_peer_numbers, served_side, grown_side, SameFlight, flights_side, peer_side}
 use Rattle.rep_laws.proofs.DoesQueues.{queue_numbers}
 use Rattle.rep_laws.proofs.Moves.{numbers, flown_off, other_queues, Move, Tells, Gives, Phases, Copies, Offers, Sweeps, MakesFolder, Begins, Replays, Lands, Drops, Serves, Hosts, Settles, Flies, Marks, Notes, AddsPeer, MakesSerial, SetsStanding, Restarts}
 
@@ -205,16 +204,16 @@ added_side {c} {K} {peers} {queues} {flights} servers new none front o =
     record {
       fronts = All_append (PeerFront K) peers (new ∷ []) o.fronts (front, tt);
       out = All_append _ queues fresh (All_weaker (λ q h k e. (let f = h k e in record {
-          flight = f.flight;
-          there = f.there;
-          cluster = f.cluster;
-          peer = f.peer;
-          server = f.server;
-          sender = f.sender;
-          known = find_more (is_peer q.peer) f.sender peers (new ∷ []) f.known;
-          rest = f.rest;
-          first = f.first;
-        })) queues o.out) (peer_queues_all _ new.number servers (all_of _ (λ v. without_flight c K (peers ++ new ∷ []) flights (new_queue new.number v.number) refl) servers));
+        flight = f.flight;
+        there = f.there;
+        cluster = f.cluster;
+        peer = f.peer;
+        server = f.server;
+        sender = f.sender;
+        known = find_more (is_peer q.peer) f.sender peers (new ∷ []) f.known;
+        rest = f.rest;
+        first = f.first;
+      })) queues o.out) (peer_queues_all _ new.number servers (all_of _ (λ v. without_flight c K (peers ++ new ∷ []) flights (new_queue new.number v.number) refl) servers));
       unique = unique_joined queues fresh o.unique (peer_queues_unique new.number servers o.servers_differ)
           (All_weaker (λ q i. peer_queues_all (ApartQueues q) new.number servers (all_of _ (λ v e f. absent (subst (λ k. In k ps) e i)) servers)) queues o.known);
       known = subst (λ (w : List ℕ). AllByRecursion (λ (q : Queue). In q.peer w) (queues ++ fresh)) (sym grown) (All_append _ queues fresh (All_weaker (λ q i. in_left q.peer ps (new.number ∷ []) i) queues o.known)
@@ -268,10 +267,6 @@ restart_front K x f = cond_both (is_synchronous x.kind) (record x { start = leng
 restart_numbers : (n : ℕ) (ps : List Peer) → peer_numbers (map (restarted n) ps) ≡ peer_numbers ps
 restart_numbers n ps = map_same (λ (p : Peer). p.number) (restarted n) (λ x. cond_both (is_synchronous x.kind) (record x { start = n; serial_start = n }) x (λ (y : Peer). y.number ≡ x.number) (λ _. refl) (λ _. refl)) ps
 
-all_in_peers : (ps : List Peer) → AllByRecursion (λ (p : Peer). In p.number (peer_numbers ps)) ps
-all_in_peers [] = tt
-all_in_peers (p ∷ ps) = (inl refl, All_weaker (λ w i. inr i) ps (all_in_peers ps))
-
 restarted_front : {c : Cluster} {K : List Commit} {peers : List Peer} {queues : List Queue} {flights : List Flight} (servers : List Server) → FrontSide c K peers queues (numbers servers) flights
     → FrontSide c K (map (restarted (length K)) peers) (restart_queues servers peers queues) (numbers servers) flights
 restarted_front {c} {K} {peers} {queues} {flights} servers o =
@@ -279,7 +274,7 @@ restarted_front {c} {K} {peers} {queues} {flights} servers o =
     let qs : List Queue = restart_queues servers peers queues in
     let old : AllByRecursion (Outstanding c K peers flights) qs = restart_all (Outstanding c K peers flights) servers peers queues (all_of _ (λ p. peer_queues_all _ p.number servers (all_of _ (λ v. without_flight c K peers flights (new_queue p.number v.number) refl) servers)) peers) o.out in
     let same : peer_numbers new ≡ peer_numbers peers = restart_numbers (length K) peers in
-    let known : AllByRecursion (λ (q : Queue). In q.peer (peer_numbers peers)) qs = restart_all (λ (q : Queue). In q.peer (peer_numbers peers)) servers peers queues (All_weaker (λ p i. peer_queues_all (λ (q : Queue). In q.peer (peer_numbers peers)) p.number servers (all_of _ (λ v. i) servers)) peers (all_in_peers peers)) o.known in
+    let known : AllByRecursion (λ (q : Queue). In q.peer (peer_numbers peers)) qs = restart_all (λ (q : Queue). In q.peer (peer_numbers peers)) servers peers queues (All_weaker (λ p i. peer_queues_all (λ (q : Queue). In q.peer (peer_numbers peers)) p.number servers (all_of _ (λ v. i) servers)) peers (all_peer_numbers peers)) o.known in
     record {
       fronts = All_mapped (PeerFront K) (restarted (length K)) peers (All_weaker (λ x f. restart_front K x f) peers o.fronts);
       out = still qs old (λ p sync i. restart_clean servers p peers queues sync i);

@@ -1,10 +1,9 @@
 -- What is recorded of a server is a front of its commits: how queues grow and shrink.
-use Rattle.std.proofs.Common.{ℕ, zero, suc, ◌-◌, ◌≤◌, ◌≡◌, ◌==◌, ◌&&◌, ◌||◌, inl, inr, not, nat_le, Bool, true, false, cond, List, [], ◌∷◌, ◌++◌, map, filter, drop, length, find, Option, Some, None, refl, ap, sym, ◌∙◌, subst, append_assoc, append-nil, arith, eqb-true, eq-eqb, length-append}
-use Rattle.std.specs.List.{AllByRecursion, list_any}
-use Rattle.std.proofs.lemmas.Bool.{cond_both, cond-true, cond-false, and_parts, and_from, and_left, and_right, or_cases, or_parts, or_left, or_right, false≢true, true≢false, false_from_ne_true, cases_Bool, not_from_true, not_from_false, eqb-false}
+use Rattle.std.proofs.Common.{ℕ, zero, suc, ◌-◌, ◌≤◌, ◌≡◌, ◌==◌, ◌&&◌, ◌||◌, inl, inr, not, nat_le, Bool, true, false, cond, List, [], ◌∷◌, ◌++◌, filter, drop, length, refl, ap, sym, ◌∙◌, subst, append_assoc, arith, eqb-true, length-append}
+use Rattle.std.specs.List.{AllByRecursion}
+use Rattle.std.proofs.lemmas.Bool.{cond_both, cond-true, and_parts, or_cases, or_left, or_right, false≢true, false_from_ne_true, cases_Bool, not_from_true, not_from_false, eqb-false}
 use Rattle.std.proofs.lemmas.List.{map-append, drop-append-le}
 use Rattle.std.proofs.lemmas.List.Elements.{filter-append}
-use Rattle.std.proofs.lemmas.Option.{none-some, same_Some}
 use Rattle.rep_types.specs.declared.ids.Cluster.{Cluster}
 use Rattle.rep_types.specs.declared.entry.EntryId.{EntryId}
 use Rattle.rep_model.specs.Commits.{id_of, same_entry, stands_in}
@@ -13,7 +12,7 @@ use Rattle.rep_model.specs.Queues.{is_queued, queue, is_admitted, taken, batch}
 use Rattle.rep_model.specs.Order.{same_id, has_id}
 use Rattle.rep_model.specs.declared.machine.Commit.{Commit}
 use Rattle.rep_model.specs.declared.machine.Peer.{Peer}
-use Rattle.rep_laws.proofs.Lists.{In, in_all, All_weaker, All_append, All_both, All_left, All_passing, All_dropped, All_filtered, Distinct, apart, has_left, has_right, same_id_sound, same_id_refl}
+use Rattle.rep_laws.proofs.Lists.{filter-both, All_weaker, All_append, All_both, All_left, All_passing, All_dropped, Distinct, apart, has_right, same_id_sound, same_id_refl}
 use Rattle.rep_laws.proofs.Behind.{ids, Stands, one_entry, all_stand}
 use Rattle.rep_laws.proofs.Keyed.{distinct_dropped, distinct_filtered}
 use Rattle.rep_laws.proofs.Admitting.{stands_has, same_entry_id, same_entry_refl}
@@ -37,16 +36,6 @@ pub record PeerFront (K : List Commit) (p : Peer) : Type 0 where
 pub filter_same : (q r : Commit → Bool) (xs : List Commit) → AllByRecursion (λ x. q x ≡ r x) xs → filter q xs ≡ filter r xs
 filter_same q r [] a = refl
 filter_same q r (x ∷ xs) a = ap (λ b. cond b (x ∷ filter q xs) (filter q xs)) a.0 ∙ ap (λ w. cond (r x) (x ∷ w) w) (filter_same q r xs a.1)
-
--- what passes both tests
-filter-filter : (h g : Commit → Bool) (xs : List Commit) → filter g (filter h xs) ≡ filter (λ x. h x && g x) xs
-filter-filter h g [] = refl
-filter-filter h g (x ∷ xs) =
-    cond_both (h x) (x ∷ filter h xs) (filter h xs) (λ w. filter g w ≡ cond (h x && g x) (x ∷ filter (λ y. h y && g y) xs) (filter (λ y. h y && g y) xs))
-    (λ a. cond_both (g x) (x ∷ filter g (filter h xs)) (filter g (filter h xs)) (λ w. w ≡ cond (h x && g x) (x ∷ filter (λ y. h y && g y) xs) (filter (λ y. h y && g y) xs))
-      (λ b. ap (λ w. x ∷ w) (filter-filter h g xs) ∙ sym (cond-true _ _ _ (and_from _ _ a b)))
-      (λ b. filter-filter h g xs ∙ sym (cond-false _ _ _ (and_right _ _ b))))
-    (λ a. filter-filter h g xs ∙ sym (cond-false _ _ _ (and_left _ _ a)))
 
 all_pass : (q : Commit → Bool) (xs : List Commit) → AllByRecursion (λ x. q x ≡ true) xs → filter q xs ≡ xs
 all_pass q [] a = refl
@@ -157,7 +146,7 @@ each P h [] = tt
 each P h (x ∷ xs) = (h x, each P h xs)
 
 queue_less : (p : Peer) (entries : List Commit) (n : ℕ) (K : List Commit) → queue (noted p entries) n K ≡ filter (λ y. not (stands_in entries y)) (queue p n K)
-queue_less p entries n K = filter_same (is_queued (noted p entries) n) (λ y. is_queued p n y && not (stands_in entries y)) (drop p.start K) (each _ (λ y. queued_less p entries n y) (drop p.start K)) ∙ sym (filter-filter (is_queued p n) (λ y. not (stands_in entries y)) (drop p.start K))
+queue_less p entries n K = filter_same (is_queued (noted p entries) n) (λ y. is_queued p n y && not (stands_in entries y)) (drop p.start K) (each _ (λ y. queued_less p entries n y) (drop p.start K)) ∙ sym (filter-both (is_queued p n) (λ y. not (stands_in entries y)) (drop p.start K))
 
 self_standing : (pre xs : List Commit) → AllByRecursion (λ x. stands_in (pre ++ xs) x ≡ true) xs
 self_standing pre [] = tt
@@ -232,8 +221,8 @@ front_at_end K p e f = record {
   starts = (let a = e in let b = f in omega arith);
   ends = (let b = f in omega arith);
   front = λ n. (let none : drop p.start K ≡ [] = ap (λ k. drop k K) e ∙ past_all K in record {
-      done = [];
-      split = ap (filter (of_server n)) none ∙ sym (ap (filter (is_queued p n)) none);
-      recorded = tt;
-    });
+    done = [];
+    split = ap (filter (of_server n)) none ∙ sym (ap (filter (is_queued p n)) none);
+    recorded = tt;
+  });
 }

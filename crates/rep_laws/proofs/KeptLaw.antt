@@ -1,5 +1,5 @@
 -- Once a promotion has ended, what ended as synchronous is written with its whole edit.
-use Rattle.std.proofs.Common.{ℕ, ◌≡◌, ◌⊎◌, ◌&&◌, inl, inr, Bool, true, false, List, [], ◌∷◌, Option, Some, None, refl, ap, sym, ◌∙◌, subst}
+use Rattle.std.proofs.Common.{◌≡◌, ◌⊎◌, ◌&&◌, inl, inr, Bool, true, false, List, [], ◌∷◌, Option, Some, None, refl, ap, sym, ◌∙◌, subst}
 use Rattle.std.specs.List.{AllByRecursion}
 use Rattle.std.proofs.lemmas.Bool.{and_parts, not-false, false≢true}
 use Rattle.std.proofs.lemmas.Option.{same_Some}
@@ -12,15 +12,14 @@ use Rattle.rep_types.specs.declared.event.Event.{Event}
 use Rattle.rep_types.specs.declared.event.Event.TheVariants as event
 use Rattle.rep_types.specs.declared.state.SyncState.TheVariants as state
 use Rattle.rep_types.specs.declared.state.Phase.TheVariants as phase
-use Rattle.rep_types.specs.declared.state.Call.TheVariants as call
 use Rattle.rep_types.specs.declared.refusal.Refusal.{Refusal}
 use Rattle.rep_types.specs.declared.reply.Reply.{Reply}
 use Rattle.rep_types.specs.declared.reply.Reply.TheVariants as reply
-use Rattle.rep_model.specs.State.{of, with, other}
+use Rattle.rep_model.specs.State.{of}
 use Rattle.rep_model.specs.Words.{is_paired, is_worded}
 use Rattle.rep_model.specs.Commits.{id_of}
 use Rattle.rep_model.specs.Forms.{cut_kind}
-use Rattle.rep_model.specs.Promises.{IsKeptWrite, AllKept}
+use Rattle.rep_model.specs.Promises.{AllKept}
 use Rattle.rep_model.specs.PeerEvents.{synchronous_refusals, with_phase}
 use Rattle.rep_model.specs.PromotionEvents.{is_replaying, promote_end_row}
 use Rattle.rep_model.specs.Row.{Row, first, unless}
@@ -30,14 +29,13 @@ use Rattle.rep_model.specs.declared.machine.Commit.{Commit}
 use Rattle.rep_model.specs.declared.machine.Link.{Link}
 use Rattle.rep_model.specs.declared.machine.Written.{Written}
 use Rattle.rep_model.specs.declared.machine.Ticket.{Ticket}
-use Rattle.rep_model.specs.declared.machine.Told.{Told}
 use Rattle.rep_model.specs.declared.machine.Told.TheVariants as told
 use Rattle.rep_laws.proofs.Lists.{In, in_all, All_weaker, Distinct}
-use Rattle.rep_laws.proofs.Behind.{Stands, one_entry, ids}
+use Rattle.rep_laws.proofs.Behind.{one_entry, ids}
 use Rattle.rep_laws.proofs.Inv.{Inv}
 use Rattle.rep_laws.proofs.Synced.{Covering, kinds, covered}
 use Rattle.rep_laws.proofs.SourcedPart.{CutOf, FairItem, Sourced, formed_cut}
-use Rattle.rep_laws.proofs.LinkPart.{Links, LinkOk, link_at}
+use Rattle.rep_laws.proofs.LinkPart.{Links}
 use Rattle.rep_laws.proofs.SavedPart.{Safe, Claimed, Fine, AllFine, Saved, only_written}
 use Rattle.rep_laws.proofs.TicketPart.{no_folder}
 use Rattle.rep_laws.proofs.DoesMirror.{stands_within}

@@ -1,15 +1,13 @@
 -- Each move keeps that each flight is of one of the two clusters.
-use Rattle.std.proofs.Common.{ℕ, ◌≡◌, Bool, true, List, [], ◌∷◌, ◌++◌, refl, ap, sym, ◌∙◌, subst}
-use Rattle.std.specs.List.{AllByRecursion}
+use Rattle.std.proofs.Common.{◌≡◌, Bool, true, sym, subst}
 use Rattle.rep_types.specs.declared.ids.Cluster.{Cluster}
 use Rattle.rep_model.specs.State.{of, with, other, is_flight}
 use Rattle.rep_types.specs.declared.event.Event.{Event}
 use Rattle.rep_types.specs.declared.reply.Reply.{Reply}
 use Rattle.rep_model.specs.Rows.{row}
-use Rattle.rep_model.specs.Words.{is_paired, is_worded}
+use Rattle.rep_model.specs.Words.{is_worded}
 use Rattle.rep_model.specs.declared.machine.Machine.{Machine}
 use Rattle.rep_model.specs.declared.machine.Side.{Side}
-use Rattle.rep_model.specs.declared.machine.Flight.{Flight}
 use Rattle.rep_laws.proofs.Lists.{All_append}
 use Rattle.rep_laws.proofs.Finding.{All_replaced}
 use Rattle.rep_laws.proofs.Sides.{flights_with}

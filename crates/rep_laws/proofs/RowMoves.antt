@@ -1,18 +1,16 @@
 -- Each row of the machine leaves what moves reach.
-use Rattle.std.proofs.Common.{ℕ, ◌≡◌, ◌==◌, ◌&&◌, Bool, true, false, List, [], ◌∷◌, ◌++◌, map, refl, ap, sym, ◌∙◌, subst, eq-eqb}
-use Rattle.std.specs.List.{AllByRecursion}
+use Rattle.std.proofs.Common.{ℕ, ◌≡◌, ◌==◌, Bool, true, false, List, [], ◌∷◌}
 use Rattle.std.proofs.lemmas.Bool.{and_parts}
 use Rattle.rep_types.specs.declared.ids.Cluster.{Cluster}
 use Rattle.rep_types.specs.declared.event.Event.{Event}
 use Rattle.rep_types.specs.declared.event.Event.TheVariants as event
 use Rattle.rep_types.specs.declared.reply.Reply.{Reply}
 use Rattle.rep_model.specs.State.{mark}
-use Rattle.rep_model.specs.Words.{is_paired, is_worded}
-use Rattle.rep_model.specs.Reads.{get_row, show_row, table_edits, row_edits}
+use Rattle.rep_model.specs.Words.{is_worded}
+use Rattle.rep_model.specs.Reads.{get_row, show_row}
 use Rattle.rep_model.specs.Rows.{row}
 use Rattle.rep_model.specs.declared.machine.Machine.{Machine}
 use Rattle.rep_laws.proofs.Lists.{mark_refl}
-use Rattle.rep_laws.proofs.Moves.{Moves}
 use Rattle.rep_laws.proofs.Steps.{Does, simple_does, still_does}
 use Rattle.rep_laws.proofs.DoesLogs.{server_does, put_does, sync_does, roll_does, crash_does, seal_does}
 use Rattle.rep_laws.proofs.DoesRegions.{table_does, open_begin_does, open_end_does, close_begin_does, close_end_does, recover_does, flush_does, compact_does, split_does, merge_does, sweep_does}

@@ -1,25 +1,24 @@
--- Each move keeps that covered tables have scope 1 throughout, that each pending entry is of a table that stands, that a pending put is as its ticket wants it, and that what is committed as an arrival is written.
-use Rattle.std.proofs.Common.{ℕ, zero, suc, ◌+◌, ◌-◌, ◌≤◌, ◌≡◌, ◌==◌, ◌&&◌, ◌||◌, inl, inr, not, nat_le, Bool, true, false, cond, List, [], ◌∷◌, ◌++◌, map, find, length, Option, Some, None, is_none, slice_get, slice_set, refl, ap, sym, ◌∙◌, subst, append_assoc, append-nil, arith, eq-eqb, eqb-true, if◌then◌else◌}
+-- Each move keeps that covered tables have scope 1 throughout, that pending entries are as their tables and tickets want them,
+-- and that what is committed as an arrival is written.
+use Rattle.std.proofs.Common.{ℕ, zero, suc, ◌-◌, ◌≡◌, ◌==◌, ◌||◌, inl, inr, nat_le, Bool, true, false, List, [], ◌∷◌, ◌++◌, find, length, Option, Some, None, is_none, slice_get, slice_set, refl, ap, sym, ◌∙◌, subst, append_assoc, append-nil, arith, eq-eqb, eqb-true}
 use Rattle.std.specs.List.{AllByRecursion, list_any, list_all}
-use Rattle.std.proofs.lemmas.Bool.{cond_both, and_parts, and_from, or_cases, or_parts, or_left, or_right, false≢true, true≢false, leb-true, false_from_ne_true, cases_Bool, eqb-false}
+use Rattle.std.proofs.lemmas.Bool.{cond_both, and_parts, and_from, or_cases, or_parts, false≢true, true≢false, leb-true, cases_Bool, eqb-false}
 use Rattle.std.proofs.lemmas.List.{map-append}
 use Rattle.std.proofs.lemmas.Option.{same_Some, none-some}
 use Rattle.rep_types.specs.Edit.{EditValue}
 use Rattle.rep_types.specs.declared.ids.Cluster.{Cluster}
 use Rattle.rep_types.specs.declared.ids.Cluster.TheVariants.{A, B, C}
 use Rattle.rep_types.specs.declared.table.Family.{Family}
-use Rattle.rep_types.specs.declared.entry.EntryId.{EntryId}
 use Rattle.rep_types.specs.declared.entry.Origin.{Origin}
 use Rattle.rep_types.specs.declared.entry.EntryKind.{EntryKind}
 use Rattle.rep_types.specs.declared.entry.EntryKind.TheVariants as kind
-use Rattle.rep_types.specs.declared.state.Kind.{Kind}
-use Rattle.rep_model.specs.Keyed.{given, if_some, replace}
-use Rattle.rep_model.specs.State.{of, with, other, mark, is_peer, with_peer, with_link}
+use Rattle.rep_model.specs.Keyed.{given}
+use Rattle.rep_model.specs.State.{of, with, other, mark, with_peer}
 use Rattle.rep_model.specs.Words.{is_paired}
-use Rattle.rep_model.specs.Commits.{id_of, commit_of, writes, settled}
+use Rattle.rep_model.specs.Commits.{commit_of, writes}
 use Rattle.rep_model.specs.Peers.{is_synchronous, has_table}
 use Rattle.rep_model.specs.Places.{is_named, table_of}
-use Rattle.rep_model.specs.Tickets.{tell_number, tell_one, told_by, unless_told}
+use Rattle.rep_model.specs.Tickets.{tell_number, unless_told}
 use Rattle.rep_model.specs.LogEvents.{has_family}
 use Rattle.rep_model.specs.PeerEvents.{new_peer, lacks_table, is_partial, has_local}
 use Rattle.rep_model.specs.declared.machine.Machine.{Machine}
@@ -39,12 +38,12 @@ use Rattle.rep_laws.proofs.Finding.{find_more}
 use Rattle.rep_laws.proofs.Keys.{bytes_same}
 use Rattle.rep_laws.proofs.Committed.{numbered}
 use Rattle.rep_laws.proofs.Flow.{peer_at}
-use Rattle.rep_laws.proofs.SerialPart.{restarted, found_again}
+use Rattle.rep_laws.proofs.SerialPart.{found_again}
 use Rattle.rep_laws.proofs.SourcedPart.{source_of}
 use Rattle.rep_laws.proofs.Sides.{settled_side, wrote, committed_one, told_one, told_after, other_paired, tickets_with}
-use Rattle.rep_laws.proofs.Synced.{Covering, kind_of, kinds, covered, synced, synced_is, kinds_pushed, covered_first, covered_second, nothing_covered}
+use Rattle.rep_laws.proofs.Synced.{Covering, kind_of, kinds, covered, synced, synced_is, kinds_pushed, covered_first, covered_second}
 use Rattle.rep_laws.proofs.LinkPart.{kinds_same, restart_kinds, serial_kind}
-use Rattle.rep_laws.proofs.Moves.{flown_off, served_whence, Whence, Waited, Own, Came, AllWhence, ServersWhence, IsPut, IsPlaced, IsOf, Grown, Same, More, is_scoped, clusters, IsCovering, Retold, Move, Tells, Gives, Phases, Copies, Offers, Sweeps, MakesFolder, Begins, Replays, Lands, Drops, Serves, Hosts, Settles, Flies, Marks, Notes, AddsPeer, MakesSerial, SetsStanding, Restarts}
+use Rattle.rep_laws.proofs.Moves.{flown_off, served_whence, Whence, Waited, Own, Came, AllWhence, ServersWhence, IsPlaced, IsOf, Grown, Same, More, is_scoped, clusters, IsCovering, Retold, Move, Tells, Gives, Phases, Copies, Offers, Sweeps, MakesFolder, Begins, Replays, Lands, Drops, Serves, Hosts, Settles, Flies, Marks, Notes, AddsPeer, MakesSerial, SetsStanding, Restarts}
 
 -- the table is the one of its name
 abbrev pub Declared : List Table → Table → Type 0

@@ -1,25 +1,21 @@
 -- What the forms of rows make of moves, and the moves that many events share.
-use Rattle.std.proofs.Common.{ℕ, zero, suc, ◌+◌, ◌-◌, ◌≡◌, ◌==◌, ◌&&◌, inl, inr, Bool, true, false, not, List, [], ◌∷◌, ◌++◌, map, length, find, Option, Some, None, is_some, is_none, slice_get, slice_set, refl, ap, sym, ◌∙◌, subst, eqb-true, if◌then◌else◌}
+use Rattle.std.proofs.Common.{ℕ, zero, suc, ◌-◌, ◌≡◌, ◌==◌, ◌&&◌, inl, Bool, true, false, List, [], ◌∷◌, ◌++◌, Option, Some, None, is_some, is_none, slice_get, slice_set, refl, ap, sym, ◌∙◌, subst, eqb-true, if◌then◌else◌}
 use Rattle.std.specs.List.{AllByRecursion}
-use Rattle.std.proofs.lemmas.Bool.{cond_both, false≢true, true≢false, not-false}
+use Rattle.std.proofs.lemmas.Bool.{cond_both, true≢false}
 use Rattle.std.proofs.lemmas.Option.{none-some, same_Some}
 use Rattle.rep_types.specs.declared.ids.Cluster.{Cluster}
 use Rattle.rep_types.specs.declared.entry.EntryId.{EntryId}
 use Rattle.rep_types.specs.declared.entry.EntryKind.{EntryKind}
-use Rattle.rep_types.specs.declared.state.Call.{Call}
-use Rattle.rep_types.specs.declared.state.Call.TheVariants as call
 use Rattle.rep_types.specs.declared.refusal.Refusal.{Refusal}
 use Rattle.rep_types.specs.declared.reply.Reply.{Reply}
 use Rattle.rep_model.specs.Keyed.{given, if_some, replace}
-use Rattle.rep_model.specs.State.{of, with, mark, is_server, is_region, server_of, with_server, with_region}
+use Rattle.rep_model.specs.State.{of, mark, is_server, is_region, with_server, with_region}
 use Rattle.rep_model.specs.Words.{is_paired}
-use Rattle.rep_model.specs.Commits.{settled}
 use Rattle.rep_model.specs.Copies.{make_copy}
 use Rattle.rep_model.specs.Tickets.{tell_number, tell_waiting, unless_told, doubt_pending}
 use Rattle.rep_model.specs.LogEvents.{emptied, synced_with, own_pending, broken_by}
 use Rattle.rep_model.specs.Row.{Row, Site, first, unless, or_fault, fault_among, simple}
 use Rattle.rep_model.specs.declared.machine.Machine.{Machine}
-use Rattle.rep_model.specs.declared.machine.Side.{Side}
 use Rattle.rep_model.specs.declared.machine.Pending.{Pending}
 use Rattle.rep_model.specs.declared.machine.Server.{Server}
 use Rattle.rep_model.specs.declared.machine.Hosted.{Hosted}
@@ -28,10 +24,9 @@ use Rattle.rep_model.specs.declared.machine.Region.{Region}
 use Rattle.rep_model.specs.declared.machine.Ticket.{Ticket}
 use Rattle.rep_model.specs.declared.machine.Told.{Told}
 use Rattle.rep_model.specs.declared.machine.Told.TheVariants as told
-use Rattle.rep_laws.proofs.Lists.{In, all_in, All_append, All_weaker, All_taken, found_in}
+use Rattle.rep_laws.proofs.Lists.{In, all_in, All_append, All_weaker}
 use Rattle.rep_laws.proofs.Finding.{All_replaced}
-use Rattle.rep_laws.proofs.Sides.{of_with, of_tickets, tickets_with}
-use Rattle.rep_laws.proofs.Moves.{Whence, Waited, Own, AllWhence, ServersWhence, IsPlaced, IsOf, numbers, claims, WhyTold, StillTold, NoClaim, Retold, Move, Tells, Copies, Hosts, Same, Settles, Moves, Still, Then, one, and_then}
+use Rattle.rep_laws.proofs.Moves.{Whence, Waited, Own, AllWhence, ServersWhence, IsOf, numbers, claims, WhyTold, StillTold, NoClaim, Retold, Tells, Copies, Hosts, Same, Settles, Moves, Still, one, and_then}
 
 -- where nothing is refused, no test holds
 pub none_holds : (rs : List (Bool × Refusal)) → first rs ≡ None → AllByRecursion (λ (r : Bool × Refusal). r.0 ≡ false) rs
