@@ -10,7 +10,7 @@ use Rattle.rep_types.specs.declared.reply.Reply.TheVariants as reply
 use Rattle.rep_types.specs.declared.state.Call.TheVariants as call
 use Rattle.rep_model.specs.Keyed.{given, replace}
 use Rattle.rep_model.specs.State.{of, with, is_server}
-use Rattle.rep_model.specs.Frames.{frame_length}
+use Rattle.wal_entry.specs.Length.{frame_length}
 use Rattle.rep_model.specs.Commits.{commit_count, pending_count}
 use Rattle.rep_model.specs.Places.{on_at, is_named, serves, lacks_room}
 use Rattle.rep_model.specs.Changes.{takes_pending}

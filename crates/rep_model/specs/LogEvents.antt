@@ -16,7 +16,7 @@ use Rattle.rep_types.specs.declared.reply.Reply.{Reply}
 use Rattle.rep_types.specs.declared.reply.Reply.TheVariants as reply
 use Rattle.rep_model.specs.Keyed.{given, if_some, replace}
 use Rattle.rep_model.specs.State.{of, with, other, mark, is_server, server_of, with_server}
-use Rattle.rep_model.specs.Frames.{frame_length}
+use Rattle.wal_entry.specs.Length.{frame_length}
 use Rattle.rep_model.specs.Commits.{commit_count, pending_count, settled}
 use Rattle.rep_model.specs.Peers.{is_dual_in, is_standby, is_covered, is_removed}
 use Rattle.rep_model.specs.Places.{after_death, table_of, located_number, Seat, seat, capped, used, lacks_room}

@@ -11,7 +11,7 @@ use Rattle.rep_types.specs.declared.reply.Reply.{Reply}
 use Rattle.rep_types.specs.declared.reply.Reply.TheVariants as reply
 use Rattle.rep_model.specs.Keyed.{given, if_some, replace}
 use Rattle.rep_model.specs.State.{of, other, is_peer, is_flight, server_of, flight_of, queue_of, with_peer, with_queue}
-use Rattle.rep_model.specs.Frames.{frame_length}
+use Rattle.wal_entry.specs.Length.{frame_length}
 use Rattle.rep_model.specs.Forms.{forms}
 use Rattle.rep_model.specs.declared.machine.Form.{Form}
 use Rattle.rep_model.specs.Queues.{queue, batch, need}

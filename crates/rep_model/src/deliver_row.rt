@@ -11,7 +11,6 @@ ghost use Rattle.rep_model.specs.QueueEvents.{delivered, deliver_row};
 use crate::change::{append_pending, take_pending};
 use crate::faults::{Failing, fails_at, told_failing};
 use crate::forms::forms;
-use crate::frames::frame_length;
 use crate::lookup::{find_flight, find_server, find_serving, flight_place};
 use crate::places::on_at;
 use crate::put_row::is_standby;
@@ -22,6 +21,7 @@ use rep_types::{
     Cause, Cluster, Duplicate, EntryKind, Items, Memory, Origin, PeerId, Refusal, RegionId, Reply,
 };
 use std::alloc::Global;
+use wal_entry::kind_length;
 
 // The flight's forms have all arrived.
 fn mark_delivered(flights: &mut Items<Flight>, number: u32)
@@ -77,7 +77,7 @@ impl Machine {
             return Ok(Some(Cause::Broken { log }));
         }
         let kind = EntryKind::Write(form.edit.copy(alloc)?);
-        let need = frame_length(&kind);
+        let need = kind_length(&kind);
         if side.lacks_room(host, need) {
             return Ok(Some(Cause::NeedRoll {
                 server,

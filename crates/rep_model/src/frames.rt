@@ -1,23 +1,12 @@
 // How long the frames of a log are, in bytes.
 ghost use Rattle.std.specs.Prelude.{◌≡◌, ◌+◌, ◌-◌, ◌^◌, ◌≤◌, min};
-ghost use Rattle.rep_model.specs.Frames.{frame_length, commits_length, pending_length};
+ghost use Rattle.rep_model.specs.Frames.{commits_length, pending_length};
 ghost use Rattle.rep_model.specs.Commits.{log_commits};
 ghost use Rattle.rep_model.specs.Places.{capped, used};
 
 use crate::{Commit, Pending, Server, Side};
-use rep_types::{EntryKind, ServerId};
-
-/// The length of an entry's frame.
-pub fn frame_length(kind: &EntryKind) -> u32
-    ensures value { result ≡ frame_length kind.now }
-    ensures most { result ≤ 8224 }
-{
-    match kind {
-        EntryKind::Opened => 32,
-        EntryKind::Closed => 32,
-        EntryKind::Write(edit) => (32 + edit.length() + 7) / 8 * 8,
-    }
-}
+use rep_types::ServerId;
+use wal_entry::kind_length;
 
 fn log_length(commits: &[Commit], server: ServerId, log: u32) -> u32
     ensures { result ≡ capped (commits_length (log_commits server log commits.now)) }
@@ -25,7 +14,7 @@ fn log_length(commits: &[Commit], server: ServerId, log: u32) -> u32
     let mut total = 0u32;
     for commit in commits {
         if commit.server == server && commit.log == log {
-            total = total.saturating_add(frame_length(&commit.kind));
+            total = total.saturating_add(kind_length(&commit.kind));
         }
     }
     total
@@ -36,7 +25,7 @@ fn pending_length(pending: &[Pending]) -> u32
 {
     let mut total = 0u32;
     for entry in pending {
-        total = total.saturating_add(frame_length(&entry.kind));
+        total = total.saturating_add(kind_length(&entry.kind));
     }
     total
 }

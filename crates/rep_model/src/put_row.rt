@@ -11,7 +11,6 @@ ghost use Rattle.rep_model.specs.LogEvents.{put_edit, has_family, is_barred, put
 
 use crate::change::append_pending;
 use crate::faults::{call_of, fault_among};
-use crate::frames::frame_length;
 use crate::lookup::{find_server, find_serving, find_table};
 use crate::places::on_at;
 use crate::settle::{commit_count, pending_count};
@@ -22,6 +21,7 @@ use rep_types::{
     RegionId, Reply, SyncState, edit_length,
 };
 use std::alloc::Global;
+use wal_entry::kind_length;
 
 fn has_family(families: &Families, cell: &Cell) -> bool
     ensures { result ≡ has_family families.now cell.now }
@@ -128,7 +128,7 @@ impl Machine {
             return Ok(Reply::Refused(Refusal::Broken { log }));
         }
         let kind = EntryKind::Write(put_edit(alloc, table, row, cells)?);
-        let need = frame_length(&kind);
+        let need = kind_length(&kind);
         if side.lacks_room(host, need) {
             return Ok(Reply::Refused(Refusal::NeedRoll {
                 server,

@@ -2,16 +2,16 @@
 ghost use Rattle.std.specs.Prelude.{◌≡◌, ◌≤◌, ◌<◌, ◌&&◌, ◌||◌, not, nat_le, true, [], ◌∷◌, Some, None, drop, find, length, position, IfOk, IfSome};
 ghost use Rattle.std.specs.Option.{option_copied};
 ghost use Rattle.rep_model.specs.Regions.{overlap};
-ghost use Rattle.rep_model.specs.Frames.{frame_length};
+ghost use Rattle.wal_entry.specs.Length.{frame_length};
 ghost use Rattle.rep_model.specs.Commits.{id_of, same_entry, stands_in};
 ghost use Rattle.rep_model.specs.Queues.{is_queued, queue, before, has_all_before, is_admitted, batch, last_of, unrecorded, parent_need, need};
 ghost use Rattle.rep_model.specs.QueueEvents.{is_empty};
 
-use crate::frames::frame_length;
 use crate::places::overlap;
 use crate::{Commit, Peer};
 use rep_types::{Cluster, Duplicate, EntryId, Items, Kind, Memory, RegionId, ServerId};
 use std::alloc::Global;
+use wal_entry::kind_length;
 
 /// An entry's name in its cluster.
 pub fn id_of(cluster: Cluster, commit: &Commit) -> EntryId
@@ -96,7 +96,7 @@ fn fits(peer: &Peer, commits: &[Commit], batch: &[Commit], room: u32, entry: &Co
     ensures value { result ≡ (nat_le (frame_length entry.now.kind) room && is_admitted peer.now.kind peer.now commits.now batch.now entry.now) }
     ensures within { result ≡ true → frame_length entry.now.kind ≤ room }
 {
-    frame_length(&entry.kind) <= room && is_admitted(peer, commits, batch, entry)
+    kind_length(&entry.kind) <= room && is_admitted(peer, commits, batch, entry)
 }
 
 fn is_queued(peer: &Peer, server: ServerId, commit: &Commit) -> bool
@@ -127,7 +127,7 @@ pub fn batch(
             }
             taken.push(commit.copy(alloc)?)?;
             left -= 1;
-            room -= frame_length(&commit.kind);
+            room -= kind_length(&commit.kind);
         }
     }
     Ok(taken)

@@ -34,7 +34,7 @@ loop-commit-preserved c =
     elim c.if-is_queued.branch [
       | then-is_queued+else-left-eq0+else-not-fits+in_ok-copy+in_ok-push w ↦
           let more : l.left ≡ suc c.if-is_queued.left = omega (arith, w.left-is, w.if-left-eq0.false) in
-          rw (w.taken-is, w.in_ok-push.ensures.ok, w.in_ok-copy.ensures, w.room-is, w.frame_length.ensures.value)
+          rw (w.taken-is, w.in_ok-push.ensures.ok, w.in_ok-copy.ensures, w.room-is, w.kind_length.ensures.value)
           (batch-take p cs l.left l.room l.taken whole q waiting l.commit-index x c.if-is_queued.left l.invariant c.loop-commit-test.true c.commit-item.is (sym c.is_queued.ensures ∙ w.if-is_queued.true)
           (ap (λ (b : List Commit). fits p cs l.room b x) (sym w.as_slice.ensures) ∙ sym w.fits.ensures.value ∙ w.if-not-fits.false) more)
       | else-is_queued w ↦

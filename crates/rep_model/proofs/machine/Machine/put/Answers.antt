@@ -3,7 +3,7 @@ use Rattle.std.specs.List.{list_all}
 use Rattle.rep_types.specs.Edit.{edit_length}
 use Rattle.rep_types.specs.declared.entry.EntryKind.TheVariants as kind
 use Rattle.rep_model.specs.State.{of, is_server}
-use Rattle.rep_model.specs.Frames.{frame_length}
+use Rattle.wal_entry.specs.Length.{frame_length}
 use Rattle.rep_model.specs.Places.{on_at, is_named, serves, lacks_room}
 use Rattle.rep_model.specs.LogEvents.{put_edit, has_family, is_barred}
 use Rattle.rep_model.specs.Row.{fault_among, site}
