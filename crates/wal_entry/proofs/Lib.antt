@@ -14,3 +14,4 @@ pub mod Pushes
 pub mod Resumed
 pub mod Texts
 pub mod Verdicts
+pub mod Grown
