@@ -1,8 +1,4 @@
-pub mod Cuts
-pub mod FirstLine
-pub mod FixedLines
-pub mod Prefixes
-pub mod PutLines
+pub mod Listing
+pub mod Pieces
+pub mod Reading
 pub mod Scripts
-pub mod Spelled
-pub mod Words

@@ -1,8 +1,14 @@
-pub mod Commands
+pub mod Cells
 pub mod Cut
 pub mod Expansion
+pub mod Forms
 pub mod Grammar
+pub mod Heads
 pub mod Lines
-pub mod Openings
+pub mod Lists
+pub mod Makings
+pub mod Meanings
 pub mod Parsing
 pub mod Puts
+pub mod Steps
+pub mod Words
