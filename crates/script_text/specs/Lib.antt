@@ -2,6 +2,7 @@ pub mod Cells
 pub mod Cut
 pub mod Expansion
 pub mod Forms
+pub mod Generating
 pub mod Grammar
 pub mod Heads
 pub mod Lines

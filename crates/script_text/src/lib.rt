@@ -6,6 +6,7 @@ mod command;
 mod cut;
 mod expand;
 mod forms;
+mod generator;
 mod head;
 mod kept;
 mod line;
@@ -21,5 +22,6 @@ mod tests;
 mod words;
 
 pub use command::{Command, Commands, Input};
+pub use generator::generate;
 pub use parser::{ParseError, parse};
 pub use rule::Rule;

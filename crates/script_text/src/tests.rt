@@ -1,3 +1,6 @@
+ghost use Rattle.std.specs.Prelude.{◌≡◌, false, IfSome};
+ghost use Rattle.script_text.specs.Expansion.{asks_state};
+
 use super::*;
 use crate::head::head_of;
 use crate::line::meaning;
@@ -256,7 +259,9 @@ fn sent() -> Reply {
     }
 }
 
-fn ship() -> Option<Command> {
+fn ship() -> Option<Command>
+    ensures { IfSome result (λ ship. asks_state ship ≡ false) }
+{
     Some(Command::Ship {
         cluster: Cluster::A,
         peer: PeerId::new(1)?,
