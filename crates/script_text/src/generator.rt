@@ -17,7 +17,7 @@ struct Course {
 }
 
 #[tactic(auto, unfolding(crate::specs::Generating::next))]
-fn next(x: u64) -> u64
+pub fn next(x: u64) -> u64
     ensures { result ≡ next x }
 {
     x.wrapping_mul(6_364_136_223_846_793_005)
@@ -25,7 +25,7 @@ fn next(x: u64) -> u64
 }
 
 #[tactic(auto, unfolding(crate::specs::Generating::drawn))]
-fn drawn(below: u64, x: u64) -> u64
+pub fn drawn(below: u64, x: u64) -> u64
     requires { 0 < below }
     ensures value { result ≡ drawn below x }
     ensures least { result < below }

@@ -2,6 +2,7 @@ ghost use Rattle.std.specs.Prelude.{◌≡◌, false, IfSome};
 ghost use Rattle.script_text.specs.Expansion.{asks_state};
 
 use super::*;
+use crate::generator::{drawn, next};
 use crate::head::head_of;
 use crate::line::meaning;
 use crate::words::first_word;
@@ -239,6 +240,29 @@ fn repeated_values_stand_for_so_many_bytes(rt: HostRuntime) -> Result<(), Fail> 
     assert_eq!(rt; repeated(alloc, 1024, b"put a t r f:q@1=0*x\nput a t r f:q@1=v")?, 0);
     assert_eq!(rt; repeated(alloc, 1024, b"put a t r f:q@1=1*x")?, 102_508);
     assert_eq!(rt; repeated(alloc, 1024, b"put a t r f:q@1=1*xx")?, 102_506);
+    Ok(())
+}
+
+const GENERATED: &[u8] = b"server a 1\nserver a 2\nserver b 1\ntable a t f/1\ntable b t f/1\nopen a 1 1\nopen b 1 1\n\
+peer a 1 serial t\nput a t k22 f:q@1=v1\nsync a 1\ndrain\nshow a t\nshow b t\n";
+
+// The length of a generated script, and its bytes as one number to the base 31, below 2 ^ 64.
+fn digest(alloc: Global, start: u64, size: u32) -> Result<(usize, u64), Fail> {
+    let script = generate(alloc, start, size)?;
+    let mut digest = 0u64;
+    for byte in script.as_slice() {
+        digest = digest.wrapping_mul(31).wrapping_add(u64::from(*byte));
+    }
+    Ok((script.len(), digest))
+}
+
+#[test]
+fn the_generator_draws_its_rows(rt: HostRuntime) -> Result<(), Fail> {
+    let alloc = rt.alloc();
+    assert_eq!(rt; next(1), 7_806_831_264_735_756_412);
+    assert_eq!(rt; drawn(64, next(1)), 22);
+    assert!(rt; generate(alloc, 1, 1)?.as_slice() == GENERATED);
+    assert_eq!(rt; digest(alloc, 1, 1000)?, (34717, 13_562_033_947_440_226_292));
     Ok(())
 }
 
