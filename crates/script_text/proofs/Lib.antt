@@ -1,3 +1,4 @@
+pub mod Dues
 pub mod Generated
 pub mod Listing
 pub mod Pieces

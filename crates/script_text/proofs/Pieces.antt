@@ -1,7 +1,7 @@
 -- The first piece of a text, and its first line.
-use Rattle.std.proofs.Common.{◌≡◌, ℕ, ◌+◌, ◌-◌, ◌<◌, ◌≤◌, ◌==◌, ◌&&◌, cond, Bool, true, false, not, List, [], ◌∷◌, ◌++◌, length, take, drop, refl, sym, ap, ◌∙◌, arith}
+use Rattle.std.proofs.Common.{◌≡◌, ℕ, ◌+◌, ◌-◌, ◌<◌, ◌≤◌, ◌==◌, ◌&&◌, cond, Bool, true, false, not, List, [], ◌∷◌, ◌++◌, length, take, drop, refl, ap, arith}
 use Rattle.std.specs.List.{prefix_len, position}
-use Rattle.std.specs.Prelude.{Option, Some, None, nat_lt}
+use Rattle.std.specs.Prelude.{Some, None, nat_lt}
 use Rattle.std.specs.Option.{option_map}
 use Rattle.std.proofs.lemmas.Bool.{eqb-true}
 use Rattle.std.proofs.lemmas.Bool.Decides.{nat_tests}
@@ -77,15 +77,15 @@ lines-front (b ∷ c ∷ more) =
     (elim (b == 10) as (λ (t : Bool). (b == 10) ≡ t → Front (b ∷ c ∷ more)) [
       | true ↦ λ e h. rw (not_return b e, e) refl
       | false ↦ λ e. (elim (c == 10) as (λ (t : Bool). (c == 10) ≡ t → Front (b ∷ c ∷ more)) [
-          | true ↦ λ g. (elim (b == 13) as (λ (t : Bool). (b == 13) ≡ t → Front (b ∷ c ∷ more)) [
-              | true ↦ λ f h. rw (e, g, not_return c g, f, g) refl
-              | false ↦ λ f h. rw (e, g, not_return c g, f, e, g) refl
-            ]) refl
-          | false ↦ λ g h.
-              let k = prefix_len (in_piece 10) more in
-              let inner = rw g at (lines-front (c ∷ more) (omega (arith, rw e at h))) in
-              rw (e, g, and-false (b == 13), inner, take_more (1 + k) b (c ∷ more), take_more k c more, drop_more (1 + k) b (c ∷ more), e) refl
+        | true ↦ λ g. (elim (b == 13) as (λ (t : Bool). (b == 13) ≡ t → Front (b ∷ c ∷ more)) [
+          | true ↦ λ f h. rw (e, g, not_return c g, f, g) refl
+          | false ↦ λ f h. rw (e, g, not_return c g, f, e, g) refl
         ]) refl
+        | false ↦ λ g h.
+            let k = prefix_len (in_piece 10) more in
+            let inner = rw g at (lines-front (c ∷ more) (omega (arith, rw e at h))) in
+            rw (e, g, and-false (b == 13), inner, take_more (1 + k) b (c ∷ more), take_more k c more, drop_more (1 + k) b (c ∷ more), e) refl
+      ]) refl
     ]) refl
 
 whole-rest : (b : ℕ) (rest : List ℕ) → prefix_len (in_piece 10) (b ∷ rest) ≡ length (b ∷ rest) → prefix_len (in_piece 10) rest ≡ length rest

@@ -1,6 +1,6 @@
 -- Words and their forms.
-use Rattle.std.proofs.Common.{◌≡◌, ℕ, ◌+◌, ◌-◌, ◌*◌, ◌^◌, ◌<◌, ◌≤◌, ◌==◌, ◌&&◌, cond, Bool, true, false, not, List, [], ◌∷◌, length, get_or, drop, Option, None, Some, refl, sym, ap, ◌∙◌, arith, zero, suc, subst}
-use Rattle.std.specs.Prelude.{nat_lt, nat_le}
+use Rattle.std.proofs.Common.{◌≡◌, ℕ, ◌+◌, ◌-◌, ◌*◌, ◌<◌, ◌≤◌, ◌==◌, ◌&&◌, cond, Bool, true, false, not, List, [], ◌∷◌, length, get_or, drop, Option, None, Some, refl, sym, ap, ◌∙◌, arith, zero, suc}
+use Rattle.std.specs.Prelude.{nat_lt}
 use Rattle.std.specs.List.{list_all, position_or_len, position}
 use Rattle.std.specs.Option.{option_map, is_none}
 use Rattle.std.specs.Str.{IsUtf8}
@@ -11,7 +11,7 @@ use Rattle.std.proofs.lemmas.Str.{IsUtf8-from_ascii}
 use Rattle.rep_types.specs.declared.text.TextError.{TextError}
 use Rattle.rep_types.specs.declared.text.TextError.TheVariants.{TooLong, Empty, BadByte}
 use Rattle.rep_types.specs.Text.{refusal, name_byte, key_byte, name_refusal, key_refusal}
-use Rattle.script_text.specs.Forms.{is_digit, digits, within, name_of, key_word}
+use Rattle.script_text.specs.Forms.{is_digit, digits, within}
 
 -- where no byte fails, each passes
 all-pass : (p : ℕ → Bool) (text : List ℕ) → length text ≤ position_or_len (λ x. not (p x)) text → list_all p text ≡ true

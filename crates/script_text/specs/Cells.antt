@@ -1,5 +1,5 @@
 -- The cells of a put.
-use Rattle.std.specs.Prelude.{ℕ, ◌+◌, ◌&&◌, ◌||◌, ◌==◌, nat_le, not, Bool, true, false, List, [], ◌∷◌, length, map, sum_by, replicate, Option, Some, None, Result, Ok, Err, if◌then◌else◌}
+use Rattle.std.specs.Prelude.{ℕ, ◌+◌, ◌&&◌, ◌||◌, ◌==◌, nat_le, not, Bool, false, List, [], ◌∷◌, length, sum_by, replicate, Option, Some, None, Result, Ok, Err, if◌then◌else◌}
 use Rattle.std.specs.List.{list_any, list_all}
 use Rattle.std.specs.Option.{ok_or}
 use Rattle.std.specs.Str.{bytes_eq}
@@ -64,7 +64,7 @@ dated_of text = dated_by (cut_of 61 text) text
 unfoldable pub draft_of : List ℕ → Option Draft
 draft_of text =
     and_then (cut_of 58 text) (λ front. and_then (cut_of 64 front.1) (λ back. and_then (name_of front.0) (λ f. and_then (name_of back.0) (λ q. and_then (dated_of back.1) (λ d.
-      Some (record { family = f; qualifier = q; stamp = d.stamp; content = d.content }))))))
+    Some (record { family = f; qualifier = q; stamp = d.stamp; content = d.content }))))))
 
 abbrev pub same_column : Draft → Draft → Bool
 same_column x y = bytes_eq x.family y.family && bytes_eq x.qualifier y.qualifier

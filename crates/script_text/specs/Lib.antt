@@ -1,5 +1,7 @@
 pub mod Cells
 pub mod Cut
+pub mod Drains
+pub mod Due
 pub mod Expansion
 pub mod Forms
 pub mod Generating

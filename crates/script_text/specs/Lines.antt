@@ -1,5 +1,5 @@
 -- Texts in pieces, and the lines of a script.
-use Rattle.std.specs.Prelude.{ℕ, ◌==◌, ◌&&◌, Bool, true, false, List, [], ◌∷◌, if◌then◌else◌}
+use Rattle.std.specs.Prelude.{ℕ, ◌==◌, ◌&&◌, Bool, false, List, [], ◌∷◌, if◌then◌else◌}
 
 -- the byte begins the first piece
 abbrev pub add_byte : ℕ → List (List ℕ) → List (List ℕ)

@@ -71,7 +71,7 @@ ship args = cluster_and_two args >>= λ (c, x, y). number_word 1 4 x >>= λ p. n
 unfoldable pub send : List (List ℕ) → Result Command Rule
 send args =
     cluster_and_some (codes "25") args >>= λ (c, x, y, z).
-      number_word 1 4 x >>= λ p. number_word 1 64 y >>= λ s. number_word 1 1000 z >>= λ n. Ok (command.Single (event.Send c p s n))
+    number_word 1 4 x >>= λ p. number_word 1 64 y >>= λ s. number_word 1 1000 z >>= λ n. Ok (command.Single (event.Send c p s n))
 
 unfoldable pub merge : List (List ℕ) → Result Command Rule
 merge args = cluster_and_two args >>= λ (c, x, y). number_word 1 4096 x >>= λ low. number_word 1 4096 y >>= λ high. Ok (command.Single (event.Merge c low high))
@@ -79,7 +79,7 @@ merge args = cluster_and_two args >>= λ (c, x, y). number_word 1 4096 x >>= λ 
 unfoldable pub claim : List (List ℕ) → Result Command Rule
 claim args =
     cluster_and_three args >>= λ (c, x, y, z).
-      number_word 1 64 x >>= λ by. number_word 1 64 y >>= λ s. number_word 1 4 z >>= λ p. Ok (command.Single (event.Claim c by s p))
+    number_word 1 64 x >>= λ by. number_word 1 64 y >>= λ s. number_word 1 4 z >>= λ p. Ok (command.Single (event.Claim c by s p))
 
 unfoldable pub transit : List (List ℕ) → Result Command Rule
 transit args = cluster_and_one args >>= λ (c, x). state_word x >>= λ state. Ok (command.Single (event.TransitBegin c state))
@@ -88,7 +88,7 @@ transit args = cluster_and_one args >>= λ (c, x). state_word x >>= λ state. Ok
 unfoldable pub fail : List (List ℕ) → Result Command Rule
 fail args =
     cluster_and_some (codes "0") args >>= λ (c, x, y, z).
-      call_word x >>= λ call. number_word 1 1000000 y >>= λ nth. number_word 0 65536 z >>= λ bytes. Ok (command.Fail c call nth bytes)
+    call_word x >>= λ call. number_word 1 1000000 y >>= λ nth. number_word 0 65536 z >>= λ bytes. Ok (command.Fail c call nth bytes)
 
 unfoldable pub keep : List (List ℕ) → Result Command Rule
 keep args = cluster_and_one args >>= λ (c, x). number_word 0 65536 x >>= λ bytes. Ok (command.Keep c bytes)
@@ -108,4 +108,4 @@ split args = cluster_and_two args >>= λ (c, x, y). number_word 1 4096 x >>= λ 
 unfoldable pub peer : List (List ℕ) → Result Command Rule
 peer args =
     cluster_and_three args >>= λ (c, x, y, z).
-      number_word 1 4 x >>= λ p. kind_word y >>= λ kind. tables_word z >>= λ tables. Ok (command.Single (event.Peer c p kind tables))
+    number_word 1 4 x >>= λ p. kind_word y >>= λ kind. tables_word z >>= λ tables. Ok (command.Single (event.Peer c p kind tables))

@@ -1,5 +1,5 @@
 -- What the words of a put mean.
-use Rattle.std.specs.Prelude.{ℕ, List, [], ◌∷◌, map, Some, Result, Ok, Err, if◌then◌else◌}
+use Rattle.std.specs.Prelude.{ℕ, List, ◌∷◌, map, Some, Result, Ok, Err, if◌then◌else◌}
 use Rattle.rep_types.specs.declared.ids.Cluster.{Cluster}
 use Rattle.rep_types.specs.declared.event.Event.TheVariants as event
 use Rattle.script_text.specs.declared.command.Command.TheVariants as command
@@ -23,5 +23,5 @@ cluster_and_cells args = put_words args >>= λ (c, x, y, cells). cluster_word c 
 unfoldable pub put : ℕ → List (List ℕ) → Result Made Rule
 put repeated args =
     cluster_and_cells args >>= λ (c, x, y, cells).
-      name_word x >>= λ t. key_word y >>= λ row. drafts_word cells >>= λ drafts. used_with repeated drafts >>= λ total.
-        Ok (record { command = Some (command.Single (event.Put c t row (map cell_of drafts))); repeated = total })
+    name_word x >>= λ t. key_word y >>= λ row. drafts_word cells >>= λ drafts. used_with repeated drafts >>= λ total.
+    Ok (record { command = Some (command.Single (event.Put c t row (map cell_of drafts))); repeated = total })

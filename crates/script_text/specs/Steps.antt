@@ -3,7 +3,6 @@ use Rattle.std.specs.Prelude.{Result, Ok, Err, Option, Some, None}
 use Rattle.script_text.specs.declared.rule.Rule.{Rule}
 
 infixl 10 ◌>>=◌
-
 -- what the reading gives is read on
 abbrev pub ◌>>=◌ : {A B : Type 0} → Result A Rule → (A → Result B Rule) → Result B Rule
 (Ok x) >>= f = f x

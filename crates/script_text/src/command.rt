@@ -21,7 +21,10 @@ pub enum Command {
         server: ServerId,
     },
     /// `closebegin`, then `closeend`.
-    Close { cluster: Cluster, region: RegionId },
+    Close {
+        cluster: Cluster,
+        region: RegionId,
+    },
     /// `closebegin`, `closeend`, `openbegin`, `openend`.
     Move {
         cluster: Cluster,
@@ -35,15 +38,23 @@ pub enum Command {
         server: ServerId,
     },
     /// `sync` of each live server.
-    SyncAll { cluster: Cluster },
+    SyncAll {
+        cluster: Cluster,
+    },
     /// `promotebegin`, `replay` while logs are left, and `promoteend`.
-    Promote { cluster: Cluster },
+    Promote {
+        cluster: Cluster,
+    },
     /// Shipments until nothing is left to ship.
     Drain,
     /// Lines of the queues.
-    Queues { cluster: Cluster },
+    Queues {
+        cluster: Cluster,
+    },
     /// Lines of the regions.
-    Regions { cluster: Cluster },
+    Regions {
+        cluster: Cluster,
+    },
     /// A line of the whole state.
     Status,
     /// The store's so many-th call of this kind fails; an append or a sync leaves so many bytes.
@@ -54,7 +65,10 @@ pub enum Command {
         bytes: u32,
     },
     /// The store's next seal keeps so many bytes of the tail.
-    Keep { cluster: Cluster, bytes: u32 },
+    Keep {
+        cluster: Cluster,
+        bytes: u32,
+    },
     /// The line `--`, which ends what is done before the writers of `live` begin.
     Divider,
 }

@@ -1,11 +1,14 @@
 // The forms of single words.
 #![tactic(auto, unfolding(crate::specs::Forms::number_of, crate::specs::Forms::number_word, crate::specs::Forms::cluster_word, crate::specs::Forms::kind_word, crate::specs::Forms::state_word, crate::specs::Forms::call_word))]
+
 ghost use Rattle.std.specs.Prelude.{◌≡◌, ◌+◌, ◌-◌, ◌*◌, ◌^◌, ◌≤◌, ◌<◌, ◌&&◌, nat_le, IfOk, IfSome, Some, None, if◌then◌else◌};
 ghost use Rattle.std.specs.Str.{bytes_eq};
 ghost use Rattle.script_text.specs.Forms.{is_digit, digits, is_padded, within, number_of, number_word, cluster_word, name_of, name_word, key_word, kind_word, state_word, call_word};
 
 use crate::Rule;
-use rep_types::{Call, Cluster, Key, Kind, Memory, Name, PeerId, RegionId, ServerId, SyncState, TextError};
+use rep_types::{
+    Call, Cluster, Key, Kind, Memory, Name, PeerId, RegionId, ServerId, SyncState, TextError,
+};
 use std::alloc::Global;
 use std::str::from_utf8;
 

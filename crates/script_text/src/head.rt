@@ -1,5 +1,6 @@
 // The first words of commands, by what comes behind them.
 #![tactic(auto, unfolding(crate::specs::Heads::on_cluster_word, crate::specs::Heads::on_server_word, crate::specs::Heads::on_region_word, crate::specs::Heads::on_peer_word, crate::specs::Heads::on_place_word, crate::specs::Heads::on_flight_word, crate::specs::Heads::alone_word, crate::specs::Heads::other_word, crate::specs::Heads::head_of))]
+
 ghost use Rattle.std.specs.Prelude.{◌≡◌};
 ghost use Rattle.script_text.specs.Heads.{on_cluster_word, on_server_word, on_region_word, on_peer_word, on_place_word, on_flight_word, alone_word, other_word, head_of, is_performed, is_barred};
 

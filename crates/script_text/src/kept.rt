@@ -1,5 +1,6 @@
 // The commands that keep texts of their words.
 #![tactic(auto, unfolding(crate::specs::Meanings::show, crate::specs::Meanings::get, crate::specs::Meanings::split, crate::specs::Meanings::table, crate::specs::Meanings::peer))]
+
 ghost use Rattle.std.specs.Prelude.{◌≡◌, IfOk};
 ghost use Rattle.script_text.specs.Meanings.{show, get, split, table, peer};
 ghost use Rattle.script_text.specs.Words.{words_of};

@@ -24,4 +24,4 @@ mod words;
 pub use command::{Command, Commands, Input};
 pub use generator::generate;
 pub use parser::{ParseError, parse};
-pub use rule::Rule;
+use rule::Rule;

@@ -2,8 +2,8 @@
 ghost use Rattle.std.specs.Prelude.{◌≡◌};
 ghost use Rattle.script_text.specs.Makings.{cluster_command, server_command, region_command, peer_command, place_command, flight_command, alone_command};
 
-use crate::head::{Alone, OnCluster, OnFlight, OnPeer, OnPlace, OnRegion, OnServer};
 use crate::Command;
+use crate::head::{Alone, OnCluster, OnFlight, OnPeer, OnPlace, OnRegion, OnServer};
 use rep_types::{Cluster, Event, PeerId, RegionId, ServerId};
 
 pub fn cluster_command(word: OnCluster, cluster: Cluster) -> Command
@@ -65,9 +65,21 @@ pub fn place_command(word: OnPlace, cluster: Cluster, region: RegionId, server: 
     ensures { result ≡ place_command word cluster region server }
 {
     match word {
-        OnPlace::OpenBegin => Command::Single(Event::OpenBegin { cluster, region, server }),
-        OnPlace::Open => Command::Open { cluster, region, server },
-        OnPlace::Move => Command::Move { cluster, region, server },
+        OnPlace::OpenBegin => Command::Single(Event::OpenBegin {
+            cluster,
+            region,
+            server,
+        }),
+        OnPlace::Open => Command::Open {
+            cluster,
+            region,
+            server,
+        },
+        OnPlace::Move => Command::Move {
+            cluster,
+            region,
+            server,
+        },
     }
 }
 

@@ -1,5 +1,6 @@
 // What the words behind a command's first word mean, where nothing is kept of their texts.
 #![tactic(auto, unfolding(crate::specs::Meanings::cluster_alone, crate::specs::Meanings::cluster_and_one, crate::specs::Meanings::cluster_and_two, crate::specs::Meanings::cluster_and_three))]
+
 ghost use Rattle.std.specs.Prelude.{◌≡◌, Ok, Err, IfOk, IfErr};
 ghost use Rattle.script_text.specs.Meanings.{cluster_alone, cluster_and_one, cluster_and_two, cluster_and_three, some_words, cluster_and_some, alone, on_cluster, on_server, on_region, on_peer, on_place, on_flight, ship, send, merge, claim, transit, fail, keep};
 ghost use Rattle.script_text.specs.Words.{words_of};

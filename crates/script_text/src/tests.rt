@@ -63,20 +63,29 @@ static FAULTS: [(&[u8], u32); 60] = [
     (b"table a t f/1,\n", 106),
     (b"table a t ,f/1\n", 106),
     (b"table a t f/1,,g/0\n", 106),
-    (b"table a t a/0,b/0,c/0,d/0,e/0,f/0,g/0,h/0,i/0,j/0,k/0,l/0,m/0,n/0,o/0,p/0,q/0\n", 106),
+    (
+        b"table a t a/0,b/0,c/0,d/0,e/0,f/0,g/0,h/0,i/0,j/0,k/0,l/0,m/0,n/0,o/0,p/0,q/0\n",
+        106,
+    ),
     (b"peer a 1 plain t,u\npeer a 1 plain t,t\n", 206),
     (b"peer a 1 plain T\n", 106),
     (b"peer a 1 Plain t,\n", 107),
     (b"peer a 9 Plain t,\n", 104),
     (b"put a t r f:q@10\n", 106),
-    (b"put a t r f:q@18446744073709551615=v\nput a t r f:q@18446744073709551616=v\n", 206),
+    (
+        b"put a t r f:q@18446744073709551615=v\nput a t r f:q@18446744073709551616=v\n",
+        206,
+    ),
     (b"put a t r f:q@01=v\n", 106),
     (b"put a t r f:q@1=\nput a t r f:q@1=v-\n", 206),
     (b"put a t r f:q@1!\nput a t r f:q@1!v\n", 206),
     (b"put a t r f:q@1=v!\n", 106),
     (b"put a t r F:q@1=v\n", 106),
     (b"put a t r f:@1=v\n", 106),
-    (b"put a t r f:q@1=v f:p@1=v\nput a t r f:q@1=v f:q@2!\n", 206),
+    (
+        b"put a t r f:q@1=v f:p@1=v\nput a t r f:q@1=v f:q@2!\n",
+        206,
+    ),
     (b"put a t r f:q@1=16384*x\nput a t r f:q@1=16385*x\n", 206),
     (b"put a t r f:q@1=0*x\nput a t r f:q@1=3*-\n", 206),
     (b"put a t r f:q@1=3*xx\n", 106),
@@ -237,13 +246,17 @@ fn repeated(alloc: Global, many: u32, last: &[u8]) -> Result<u32, Fail> {
 #[test]
 fn repeated_values_stand_for_so_many_bytes(rt: HostRuntime) -> Result<(), Fail> {
     let alloc = rt.alloc();
-    assert_eq!(rt; repeated(alloc, 1024, b"put a t r f:q@1=0*x\nput a t r f:q@1=v")?, 0);
+    assert_eq!(rt;
+        repeated(alloc, 1024, b"put a t r f:q@1=0*x\nput a t r f:q@1=v")?,
+        0
+    );
     assert_eq!(rt; repeated(alloc, 1024, b"put a t r f:q@1=1*x")?, 102_508);
     assert_eq!(rt; repeated(alloc, 1024, b"put a t r f:q@1=1*xx")?, 102_506);
     Ok(())
 }
 
-const GENERATED: &[u8] = b"server a 1\nserver a 2\nserver b 1\ntable a t f/1\ntable b t f/1\nopen a 1 1\nopen b 1 1\n\
+const GENERATED: &[u8] =
+    b"server a 1\nserver a 2\nserver b 1\ntable a t f/1\ntable b t f/1\nopen a 1 1\nopen b 1 1\n\
 peer a 1 serial t\nput a t k22 f:q@1=v1\nsync a 1\ndrain\nshow a t\nshow b t\n";
 
 // The length of a generated script, and its bytes as one number to the base 31, below 2 ^ 64.
@@ -262,7 +275,10 @@ fn the_generator_draws_its_rows(rt: HostRuntime) -> Result<(), Fail> {
     assert_eq!(rt; next(1), 7_806_831_264_735_756_412);
     assert_eq!(rt; drawn(64, next(1)), 22);
     assert!(rt; generate(alloc, 1, 1)?.as_slice() == GENERATED);
-    assert_eq!(rt; digest(alloc, 1, 1000)?, (34717, 13_562_033_947_440_226_292));
+    assert_eq!(rt;
+        digest(alloc, 1, 1000)?,
+        (34717, 13_562_033_947_440_226_292)
+    );
     Ok(())
 }
 

@@ -1,4 +1,5 @@
 #![tactic(auto, unfolding(crate::specs::Words::words_of, crate::specs::Words::one_word, crate::specs::Words::two_words, crate::specs::Words::three_words, crate::specs::Words::four_words))]
+
 ghost use Rattle.std.specs.Prelude.{◌≡◌, ◌∷◌, [], ◌<◌, length, IfOk, IfErr, IfSome, IsNone, Ok, Err};
 ghost use Rattle.script_text.specs.Words.{words_of, has_word, one_word, two_words, three_words, four_words};
 

@@ -1,5 +1,5 @@
 use Rattle.std.proofs.Common.{◌≡◌, ◌+◌, ◌-◌, ◌++◌}
-use Rattle.script_text.specs.Generating.{turns_text, opening}
+use Rattle.script_text.specs.Generating.{turns_text}
 use Rattle.script_text.proofs.generator.write_script.Given as goal
 
 abbrev pub invariant-loop-before : goal.invariant-loop-before

@@ -1,4 +1,4 @@
-use Rattle.std.proofs.Common.{arith, ◌∷◌}
+use Rattle.std.proofs.Common.{arith}
 use Rattle.script_text.proofs.Pieces.{line-front, line-last}
 use Rattle.script_text.proofs.lines.first_line.Goals as goal
 
