@@ -112,23 +112,34 @@ head_of word =
     (option_or (option_map head.Alone (alone_word word))
     (other_word word)))))))
 
--- the program performs the command
+-- the program performs the command: these it doesn't yet
 abbrev pub is_performed : Head → Bool
-is_performed (head.OnServer on_server.Server) = true
-is_performed (head.OnServer on_server.Sync) = true
-is_performed (head.OnRegion on_region.OpenEnd) = true
-is_performed (head.OnPlace on_place.OpenBegin) = true
-is_performed (head.OnPlace on_place.Open) = true
-is_performed (head.OnFlight on_flight.Deliver) = true
-is_performed (head.OnFlight on_flight.Confirm) = true
-is_performed (head.Alone alone.Divider) = true
-is_performed head.Table = true
-is_performed head.Put = true
-is_performed head.Show = true
-is_performed head.Peer = true
-is_performed head.Ship = true
-is_performed head.Send = true
-is_performed _ = false
+is_performed (head.OnCluster word) = false
+is_performed (head.OnPeer word) = false
+is_performed (head.OnServer on_server.Roll) = false
+is_performed (head.OnServer on_server.Crash) = false
+is_performed (head.OnServer on_server.Seal) = false
+is_performed (head.OnServer on_server.Sweep) = false
+is_performed (head.OnServer on_server.SweepRemote) = false
+is_performed (head.OnServer on_server.Mirror) = false
+is_performed (head.OnRegion on_region.CloseBegin) = false
+is_performed (head.OnRegion on_region.CloseEnd) = false
+is_performed (head.OnRegion on_region.Recover) = false
+is_performed (head.OnRegion on_region.Flush) = false
+is_performed (head.OnRegion on_region.Compact) = false
+is_performed (head.OnRegion on_region.Close) = false
+is_performed (head.OnPlace on_place.Move) = false
+is_performed (head.OnFlight on_flight.Lose) = false
+is_performed (head.Alone alone.Drain) = false
+is_performed (head.Alone alone.Status) = false
+is_performed head.Get = false
+is_performed head.Split = false
+is_performed head.Merge = false
+is_performed head.Claim = false
+is_performed head.TransitBegin = false
+is_performed head.Fail = false
+is_performed head.Keep = false
+is_performed _ = true
 
 -- the lines after `--` may not hold the command
 abbrev pub is_barred : Head → Bool

@@ -325,17 +325,34 @@ pub fn head_of(word: &[u8]) -> Option<Head>
     other_word(word)
 }
 
-/// Whether the program performs the command today. This is the one list of those that it doesn't: their words are unknown to it.
+/// Whether the program performs the command today. This is the one list of those that it doesn't: their words are
+/// unknown to it.
 pub fn is_performed(head: Head) -> bool
     ensures { result ≡ is_performed head }
 {
     match head {
         Head::OnCluster(_) | Head::OnPeer(_) => false,
-        Head::OnServer(word) => matches!(word, OnServer::Server | OnServer::Sync),
-        Head::OnRegion(word) => matches!(word, OnRegion::OpenEnd),
+        Head::OnServer(word) => !matches!(
+            word,
+            OnServer::Roll
+                | OnServer::Crash
+                | OnServer::Seal
+                | OnServer::Sweep
+                | OnServer::SweepRemote
+                | OnServer::Mirror
+        ),
+        Head::OnRegion(word) => !matches!(
+            word,
+            OnRegion::CloseBegin
+                | OnRegion::CloseEnd
+                | OnRegion::Recover
+                | OnRegion::Flush
+                | OnRegion::Compact
+                | OnRegion::Close
+        ),
         Head::OnPlace(word) => !matches!(word, OnPlace::Move),
         Head::OnFlight(word) => !matches!(word, OnFlight::Lose),
-        Head::Alone(word) => matches!(word, Alone::Divider),
+        Head::Alone(word) => !matches!(word, Alone::Drain | Alone::Status),
         Head::Get | Head::Split | Head::Merge | Head::Claim => false,
         Head::TransitBegin | Head::Fail | Head::Keep => false,
         _ => true,
