@@ -1,28 +1,24 @@
 -- The commands of a script are served.
-use Rattle.std.proofs.Common.{◌≡◌, ℕ, ◌&&◌, ◌||◌, Bool, true, false, not, cond, List, [], ◌∷◌, length, map, replicate, zero, suc, ◌+◌, Option, Some, None, Result, Ok, Err, refl, sym, ap, ◌∙◌, subst, arith}
+use Rattle.std.proofs.Common.{◌≡◌, ℕ, ◌&&◌, ◌||◌, Bool, true, false, not, cond, List, [], ◌∷◌, length, map, replicate, zero, suc, ◌+◌, Option, Some, None, Result, Ok, Err, refl, sym, ap, ◌∙◌, subst}
 use Rattle.std.specs.Prelude.{nat_le, codes}
 use Rattle.std.specs.List.{list_all, list_any}
 use Rattle.std.specs.Option.{ok_or}
 use Rattle.std.specs.Str.{bytes_eq}
 use Rattle.std.proofs.lemmas.Bool.{and_parts}
-use Rattle.std.proofs.lemmas.Bool.Decides.{nat_tests}
 use Rattle.std.proofs.lemmas.List.{length-map, length-replicate}
 use Rattle.rep_types.specs.declared.ids.Cluster.{Cluster}
 use Rattle.rep_types.specs.declared.ids.Cluster.TheVariants.{A, B}
 use Rattle.rep_types.specs.declared.cell.Cell.{Cell}
 use Rattle.rep_types.specs.declared.cell.CellKind.{CellKind}
 use Rattle.rep_types.specs.declared.cell.CellKind.TheVariants as kind
-use Rattle.rep_types.specs.declared.event.Event.TheVariants as event
-use Rattle.rep_types.specs.declared.state.Kind.{Kind}
 use Rattle.rep_types.specs.declared.table.Family.{Family}
 use Rattle.rep_types.specs.Edit.{repeats, same_column}
-use Rattle.rep_model.specs.Words.{is_paired, is_value, is_between, are_cells, are_names, are_families, repeats_name, is_worded}
+use Rattle.rep_model.specs.Words.{is_paired, is_value, is_between, are_cells, are_names, are_families, repeats_name}
 use Rattle.script_text.specs.declared.cells.Content.{Content}
 use Rattle.script_text.specs.declared.cells.Content.TheVariants as content
 use Rattle.script_text.specs.declared.cells.Dated.{Dated}
 use Rattle.script_text.specs.declared.cells.Draft.{Draft}
 use Rattle.script_text.specs.declared.command.Command.{Command}
-use Rattle.script_text.specs.declared.command.Command.TheVariants as command
 use Rattle.script_text.specs.declared.command.Input.TheVariants.{Run}
 use Rattle.script_text.specs.declared.head.Alone.{Alone}
 use Rattle.script_text.specs.declared.head.Alone.TheVariants as alone_word
@@ -39,7 +35,6 @@ use Rattle.script_text.specs.declared.head.Head.TheVariants as head
 use Rattle.script_text.specs.declared.line.Before.{Before}
 use Rattle.script_text.specs.declared.line.Made.{Made}
 use Rattle.script_text.specs.declared.parser.ParseError.{ParseError}
-use Rattle.script_text.specs.declared.parser.ParseError.TheVariants.{Syntax}
 use Rattle.script_text.specs.declared.rule.Rule.{Rule}
 use Rattle.script_text.specs.declared.rule.Rule.TheVariants as rule
 use Rattle.script_text.specs.Cells.{is_value_byte, whole_of, byte_of, repeated_of, content_by, content_of, stamp_of, erased_by, erased_of, dated_by, dated_of, draft_of, repeats_column, are_drafts, drafts_word, used_with, kind_of, cell_of}
@@ -453,6 +448,7 @@ head-served before word args made h = by (head_of word) h
     known x true true e f h = meaning-served before.repeated x args made e f (barred-ok (before.divided && is_barred x) _ made h)
     known x true false e f h = absurd (cc h)
     known x false i e f h = absurd (cc h)
+
     by : (o : Option Head) → head_line before (and_then o (λ x. cond (is_performed x && is_in Run x) (Some x) None)) args ≡ Ok made → made_served made ≡ true
     by None h = absurd (cc h)
     by (Some x) h = known x (is_performed x) (is_in Run x) refl refl h
