@@ -1,3 +1,4 @@
 pub mod Performing
+pub mod Scripted
 pub mod Serving
 pub mod Steps

@@ -1,12 +1,10 @@
 -- The commands of scripts are served, and so are their events.
-use Rattle.std.proofs.Common.{◌≡◌, inl, inr, ℕ, ◌&&◌, zero, suc, Bool, true, false, cond, List, [], ◌∷◌, ◌++◌, length, Option, Some, None, refl, sym, ap, ◌∙◌, subst, arith}
-use Rattle.std.specs.Prelude.{slice_get, nat_lt, nat_le}
-use Rattle.std.specs.List.{list_all}
+use Rattle.std.proofs.Common.{◌≡◌, ℕ, ◌&&◌, Bool, true, false, cond, List, [], ◌∷◌, Option, Some, None, refl, ap, subst, arith}
+use Rattle.std.specs.Prelude.{nat_lt, nat_le}
 use Rattle.std.specs.Option.{option_map}
 use Rattle.std.proofs.lemmas.Bool.{and_parts}
 use Rattle.std.proofs.lemmas.Bool.Decides.{nat_tests}
 use Rattle.rep_types.specs.declared.ids.Cluster.{Cluster}
-use Rattle.rep_types.specs.declared.ids.Cluster.TheVariants.{A}
 use Rattle.rep_types.specs.declared.event.Event.{Event}
 use Rattle.rep_types.specs.declared.event.Event.TheVariants as event
 use Rattle.rep_types.specs.declared.reply.Reply.{Reply}
@@ -15,8 +13,7 @@ use Rattle.rep_model.specs.Built.{is_built}
 use Rattle.rep_model.specs.Words.{is_paired, is_worded}
 use Rattle.script_text.specs.declared.command.Command.{Command}
 use Rattle.script_text.specs.declared.command.Command.TheVariants as command
-use Rattle.script_text.specs.Expansion.{passes, flight_sent, only_if, next_event}
-use Rattle.script_text.specs.Grammar.{opening, t, cell, is_value_byte, is_short, IsLater, IsPlaced, AreLines, IsScript}
+use Rattle.script_text.specs.Expansion.{passes, flight_sent, only_if, asks_state, next_event}
 use Rattle.script_runner.specs.Served.{is_served}
 
 -- an event that the machine takes
@@ -74,48 +71,11 @@ event-taken (command.Ship c p s) [] e served h = taken-some _ e h (refl, and-tru
 event-taken (command.Ship c p s) (x ∷ []) e served h = deliver-taken x e h
 event-taken (command.Ship c p s) (x ∷ y ∷ []) e served h = taken-only (passes y) _ e h (confirm-taken x)
 event-taken (command.Ship c p s) (x ∷ y ∷ z ∷ rs) e served h = absurd (cc h)
+event-taken _ replies e served h = absurd (cc served)
 
-abbrev served_in : Option Command → Bool
-served_in None = true
-served_in (Some c) = is_served c
-
-opening-served : (n : ℕ) (c : Command) → slice_get opening n ≡ Some c → is_served c ≡ true
-opening-served zero c h = ap served_in (sym h)
-opening-served (suc zero) c h = ap served_in (sym h)
-opening-served (suc (suc zero)) c h = ap served_in (sym h)
-opening-served (suc (suc (suc zero))) c h = ap served_in (sym h)
-opening-served (suc (suc (suc (suc zero)))) c h = ap served_in (sym h)
-opening-served (suc (suc (suc (suc (suc zero))))) c h = ap served_in (sym h)
-opening-served (suc (suc (suc (suc (suc (suc zero)))))) c h = ap served_in (sym h)
-opening-served (suc (suc (suc (suc (suc (suc (suc n))))))) c h = absurd (cc h)
-
-long_enough : (n : ℕ) → nat_le n 31 ≡ true → nat_le n 16384 ≡ true
-long_enough n h = grind (arith, nat_tests)
-
-put-worded : (row : List ℕ) (stamp : ℕ) (value : List ℕ) → is_short value ≡ true → is_worded (event.Put A t row (cell stamp value ∷ [])) ≡ true
-put-worded row stamp value h =
-    let parts = and_parts (nat_le (length value) 31) (list_all is_value_byte value) h in
-    rw (long_enough (length value) parts.0, parts.1) refl
-
-later-served : (c : Command) → IsLater c → is_served c ≡ true
-later-served c (inl p) = ap is_served p.is ∙ put-worded p.row p.stamp p.value p.short
-later-served c (inr (inl e)) = ap is_served e
-later-served c (inr (inr (inl e))) = ap is_served e
-later-served c (inr (inr (inr (inl e)))) = ap is_served e
-later-served c (inr (inr (inr (inr e)))) = ap is_served e
-
-placed-served : (n : ℕ) (c : Command) → IsPlaced n c → is_served c ≡ true
-placed-served n c (inl o) = opening-served n c o
-placed-served n c (inr l) = later-served c l.1
-
-lines-served : (before lines : List (List ℕ)) (commands : List Command) → AreLines before lines commands → list_all is_served commands ≡ true
-lines-served before [] [] h = refl
-lines-served before [] (c ∷ commands) h = absurd h
-lines-served before (line ∷ lines) [] h = absurd h
-lines-served before (line ∷ lines) (c ∷ commands) h =
-    let rest = lines-served (before ++ line ∷ []) lines commands h.1 in
-    rw (placed-served (length before) c h.0.placed, rest) refl
-
--- a script's commands are served
-pub script-served : (lines : List (List ℕ)) (commands : List Command) → IsScript lines commands → list_all is_served commands ≡ true
-script-served lines commands h = lines-served [] lines commands h
+-- and none asks for the state
+pub served-asks : (c : Command) → is_served c ≡ true → asks_state c ≡ false
+served-asks (command.Single e) served = refl
+served-asks (command.Open c r s) served = refl
+served-asks (command.Ship c p s) served = refl
+served-asks _ served = absurd (cc served)

@@ -17,12 +17,12 @@ IsOfScript WriteFault = Unit {0}
 IsOfScript Memory = Unit {0}
 IsOfScript _ = ⊥
 
--- of a text with such a first line outside the grammar: this line and rule 2, unless the source failed or memory was short
-abbrev pub IsOfFault : ℕ → Status → Type 0
-IsOfFault number (Syntax line rule) = (line ≡ number) × (rule ≡ 2)
-IsOfFault number ReadFault = Unit {0}
-IsOfFault number Memory = Unit {0}
-IsOfFault number _ = ⊥
+-- of a text with such a first line outside the grammar, and such a first rule that it breaks: these, unless the source failed or memory was short
+abbrev pub IsOfFault : ℕ → ℕ → Status → Type 0
+IsOfFault number broken (Syntax line rule) = (line ≡ number) × (rule ≡ broken)
+IsOfFault number broken ReadFault = Unit {0}
+IsOfFault number broken Memory = Unit {0}
+IsOfFault number broken _ = ⊥
 
 -- of a text that is too long: this, unless the source failed or memory was short
 abbrev pub IsOfLong : Status → Type 0

@@ -5,6 +5,7 @@ use Rattle.rep_model.specs.Runs.{IsLegal}
 use Rattle.rep_io.specs.Io.{Appends, AppendsPart}
 use Rattle.report_text.specs.Lines.{lines}
 use Rattle.script_text.specs.declared.command.Command.{Command}
+use Rattle.script_text.specs.declared.command.Input.TheVariants.{Run}
 use Rattle.script_text.specs.Lines.{lines_of}
 use Rattle.script_text.specs.Grammar.{IsScript}
 use Rattle.script_text.specs.Expansion.{Expands}
@@ -19,11 +20,11 @@ pub record Performed (commands : List Command) (got : List ℕ → Type 0) : Typ
 -- the script, where its text is told, was performed, and the sink grew by the lines of its journal
 pub record Ran (text old new : Option (List ℕ)) : Type 0 where
   pub commands : List Command
-  pub script : IfSome text (λ bytes. IsScript (lines_of bytes) commands)
+  pub script : IfSome text (λ bytes. IsScript Run (lines_of bytes) commands)
   pub performed : Performed commands (Appends old new)
 
 -- the script was performed, and the sink grew by first bytes of these lines
 pub record RanInPart (text old new : Option (List ℕ)) : Type 0 where
   pub commands : List Command
-  pub script : IfSome text (λ bytes. IsScript (lines_of bytes) commands)
+  pub script : IfSome text (λ bytes. IsScript Run (lines_of bytes) commands)
   pub performed : Performed commands (AppendsPart old new)

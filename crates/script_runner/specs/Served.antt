@@ -1,5 +1,5 @@
 -- Which commands are served: their events are built and worded.
-use Rattle.std.specs.Prelude.{Bool, ◌&&◌}
+use Rattle.std.specs.Prelude.{Bool, false, ◌&&◌}
 use Rattle.rep_model.specs.Built.{is_built}
 use Rattle.rep_model.specs.Words.{is_paired, is_worded}
 use Rattle.script_text.specs.declared.command.Command.{Command}
@@ -9,3 +9,4 @@ abbrev pub is_served : Command → Bool
 is_served (command.Single e) = is_built e && is_worded e
 is_served (command.Open c r s) = is_paired c
 is_served (command.Ship c p s) = is_paired c
+is_served _ = false

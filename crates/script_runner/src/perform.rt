@@ -23,11 +23,11 @@ impl From<Memory> for StepError {
 fn perform(alloc: Global, pair: &mut Pair, command: &Command) -> Result<(), StepError>
     requires served { is_served command.now ≡ true }
     requires usable { pair.old.spent ≡ false }
-    requires room { length pair.old.journal + 3 < 2 ^ 32 - 1 }
+    requires room { length pair.old.journal + 4 < 2 ^ 32 - 1 }
     ensures performs { OnOk result ((own : List Record)
         × (pair.new.journal ≡ pair.old.journal ++ own) × Performs command.now own) }
     ensures usable { OnOk result (pair.new.spent ≡ false) }
-    ensures few { OnOk result (length pair.new.journal ≤ length pair.old.journal + 3) }
+    ensures few { OnOk result (length pair.new.journal ≤ length pair.old.journal + 4) }
     ensures err { IfErr result (λ e. e ≡ StepError.Memory) }
 {
     let mut replies = Items::new(alloc);
@@ -41,7 +41,7 @@ fn perform(alloc: Global, pair: &mut Pair, command: &Command) -> Result<(), Step
 /// A whole script.
 pub fn perform_all(alloc: Global, commands: &[Command]) -> Result<Pair, Memory>
     requires served { list_all is_served commands.now ≡ true }
-    requires room { 3 * length commands.now < 2 ^ 32 - 1 }
+    requires room { 4 * length commands.now < 2 ^ 32 - 1 }
     ensures { IfOk result (λ pair. Expands commands.now pair.journal) }
 {
     let mut pair = Pair::new(alloc);

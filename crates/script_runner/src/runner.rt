@@ -11,7 +11,7 @@ use crate::perform::perform_all;
 use rep_io::{ReadError, Sink, Source, read_all, write_all};
 use rep_types::{Argv, Status};
 use report_text::print_lines;
-use script_text::{Command, ParseError, parse};
+use script_text::{Command, Input, ParseError, parse};
 use std::alloc::Global;
 
 // The longest input, in bytes.
@@ -29,7 +29,7 @@ fn is_run(words: &Argv) -> bool
 // Performs the commands, then writes what happened.
 fn run_commands<K: Sink>(alloc: Global, commands: &[Command], out: &mut K) -> Status
     requires served { list_all is_served commands.now ≡ true }
-    requires room { 3 * length commands.now < 2 ^ 32 - 1 }
+    requires room { 4 * length commands.now < 2 ^ 32 - 1 }
     ensures ok { result ≡ Status.Ok → Performed commands.now (Appends (K.held out.old) (K.held out.new)) }
     ensures part { result ≡ Status.WriteFault → Performed commands.now (AppendsPart (K.held out.old) (K.held out.new)) }
     ensures unwritten { ¬ Writes result → K.held out.new ≡ K.held out.old }
@@ -55,13 +55,13 @@ fn run_text<K: Sink>(alloc: Global, text: &[u8], out: &mut K) -> Status
     ensures ok { result ≡ Status.Ok → Ran (Some text.now) (K.held out.old) (K.held out.new) }
     ensures part { result ≡ Status.WriteFault → RanInPart (Some text.now) (K.held out.old) (K.held out.new) }
     ensures unwritten { ¬ Writes result → K.held out.new ≡ K.held out.old }
-    ensures syntax { (line rule : ℕ) → result ≡ Status.Syntax line rule → IsFault (lines_of text.now) line × (rule ≡ 2) }
-    ensures refused { (line : ℕ) → IsFault (lines_of text.now) line → IsOfFault line result }
-    ensures complete { (commands : List Command) → IsScript (lines_of text.now) commands → IsOfCommands result }
+    ensures syntax { (line rule : ℕ) → result ≡ Status.Syntax line rule → IsFault Input.Run (lines_of text.now) line rule }
+    ensures refused { (line rule : ℕ) → IsFault Input.Run (lines_of text.now) line rule → IsOfFault line rule result }
+    ensures complete { (commands : List Command) → IsScript Input.Run (lines_of text.now) commands → IsOfCommands result }
     ensures write_fault { result ≡ Status.WriteFault → Rose (K.fault_count out.old) (K.fault_count out.new) }
     ensures ends { IsOfText result }
 {
-    let commands = match parse(alloc, text) {
+    let commands = match parse(alloc, text, Input::Run) {
         Ok(commands) => commands,
         Err(ParseError::Syntax { line, rule }) => return Status::Syntax { line, rule },
         Err(ParseError::Memory) => return Status::Memory,
@@ -85,8 +85,7 @@ pub fn run<S: Source, K: Sink>(alloc: Global, words: &Argv, input: &mut S, out: 
     // When each answer comes.
     ensures bad_words { result ≡ Status.BadWords ↔ (is_run words.now ≡ false) }
     ensures syntax { (line rule : ℕ) → result ≡ Status.Syntax line rule
-        → IfSome (S.left input.old) (λ text. IsFault (lines_of text) line) }
-    ensures rule { (line rule : ℕ) → result ≡ Status.Syntax line rule → rule ≡ 2 }
+        → IfSome (S.left input.old) (λ text. IsFault Input.Run (lines_of text) line rule) }
     ensures too_long { result ≡ Status.TooLong → IfSome (S.left input.old) (λ text. 1048576 < length text) }
     ensures read_fault { result ≡ Status.ReadFault → Rose (S.fault_count input.old) (S.fault_count input.new) }
     ensures write_fault { result ≡ Status.WriteFault → Rose (K.fault_count out.old) (K.fault_count out.new) }
@@ -94,9 +93,9 @@ pub fn run<S: Source, K: Sink>(alloc: Global, words: &Argv, input: &mut S, out: 
 
     // What is answered for each text, where the words are served.
     ensures complete { (text : List ℕ) (commands : List Command) → is_run words.now ≡ true → S.left input.old ≡ Some text
-        → length text ≤ 1048576 → IsScript (lines_of text) commands → IsOfScript result }
-    ensures refused { (text : List ℕ) (line : ℕ) → is_run words.now ≡ true → S.left input.old ≡ Some text
-        → length text ≤ 1048576 → IsFault (lines_of text) line → IsOfFault line result }
+        → length text ≤ 1048576 → IsScript Input.Run (lines_of text) commands → IsOfScript result }
+    ensures refused { (text : List ℕ) (line rule : ℕ) → is_run words.now ≡ true → S.left input.old ≡ Some text
+        → length text ≤ 1048576 → IsFault Input.Run (lines_of text) line rule → IsOfFault line rule result }
     ensures cut_off { (text : List ℕ) → is_run words.now ≡ true → S.left input.old ≡ Some text
         → 1048576 < length text → IsOfLong result }
 {

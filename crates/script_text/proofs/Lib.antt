@@ -1,8 +1,7 @@
-pub mod Cuts
-pub mod FirstLine
-pub mod FixedLines
-pub mod Prefixes
-pub mod PutLines
+pub mod Dues
+pub mod Generated
+pub mod Listing
+pub mod Numbers
+pub mod Pieces
+pub mod Reading
 pub mod Scripts
-pub mod Spelled
-pub mod Words

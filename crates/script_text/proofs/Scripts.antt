@@ -1,162 +1,108 @@
--- Scripts, line by line.
-use Rattle.std.proofs.Common.{◌≡◌, ℕ, ◌+◌, ◌<◌, ◌≤◌, ◌==◌, Bool, true, false, cond, List, [], ◌∷◌, ◌++◌, length, refl, sym, ap, ◌∙◌, subst, arith, append_assoc, length-append}
-use mir.Val.{bool_byte}
-use Rattle.std.specs.Prelude.{count_by}
+-- Scripts are read line by line.
+use Rattle.std.proofs.Common.{◌≡◌, ℕ, ◌+◌, ◌≤◌, ◌==◌, ◌&&◌, cond, Bool, true, false, List, [], ◌∷◌, ◌++◌, length, Option, Some, None, Result, Ok, Err, refl, sym, ap, ◌∙◌, append_assoc, arith}
+use Rattle.std.specs.Option.{option_to_list}
 use Rattle.std.proofs.lemmas.List.{append-nil}
-use Rattle.std.proofs.lemmas.List.Sums.{sum_by-append}
 use Rattle.script_text.specs.declared.command.Command.{Command}
-use Rattle.script_text.specs.Commands.{command_text}
-use Rattle.script_text.specs.Lines.{add_byte, lines_of}
-use Rattle.script_text.specs.Grammar.{IsPlaced, is_put_line, IsLine, AreLines, IsScript, IsFault}
+use Rattle.script_text.specs.declared.command.Input.{Input}
+use Rattle.script_text.specs.declared.command.Input.TheVariants as input
+use Rattle.script_text.specs.declared.line.Before.{Before}
+use Rattle.script_text.specs.declared.line.Made.{Made}
+use Rattle.script_text.specs.declared.parser.ParseError.{ParseError}
+use Rattle.script_text.specs.declared.parser.ParseError.TheVariants.{Syntax, Memory}
+use Rattle.script_text.specs.declared.rule.Rule.{Rule}
+use Rattle.script_text.specs.Grammar.{line_meaning, after, with_command, read_on, read_lines, second_divider, ended, script}
+use Rattle.script_text.specs.Lines.{lines_of, pieces_of, add_byte, begins_with, without_returns}
+use Rattle.script_text.specs.Parsing.{rule_number, Explains}
 
-AreLines-push : (before lines : List (List ℕ)) (commands : List Command) (line : List ℕ) (c : Command) → AreLines before lines commands → IsLine (before ++ lines) line c → AreLines before (lines ++ line ∷ []) (commands ++ c ∷ [])
-AreLines-push before [] [] line c h is = (subst (λ xs. IsLine xs line c) (append-nil before) is, tt)
-AreLines-push before [] (d ∷ commands) line c h is = absurd h
-AreLines-push before (l ∷ lines) [] line c h is = absurd h
-AreLines-push before (l ∷ lines) (d ∷ commands) line c h is =
-    (h.0, AreLines-push (before ++ l ∷ []) lines commands line c h.1 (subst (λ xs. IsLine xs line c) (sym (append_assoc before (l ∷ []) lines)) is))
+-- the commands of the lines before, and what is read behind them
+abbrev pub joined : List Command → Result (List Command) ParseError → Result (List Command) ParseError
+joined cs (Ok ds) = Ok (cs ++ ds)
+joined cs (Err e) = Err e
 
--- each line of a script has a command
-line-at : (before front : List (List ℕ)) (line : List ℕ) (after : List (List ℕ)) (commands : List Command) → AreLines before (front ++ line ∷ after) commands → (c : Command) × IsLine (before ++ front) line c
-line-at before [] line after [] h = absurd h
-line-at before [] line after (c ∷ commands) h = (c, subst (λ xs. IsLine xs line c) (sym (append-nil before)) h.0)
-line-at before (l ∷ front) line after [] h = absurd h
-line-at before (l ∷ front) line after (c ∷ commands) h =
-    let found = line-at (before ++ l ∷ []) front line after commands h.1 in
-    (found.0, subst (λ xs. IsLine xs line found.0) (append_assoc before (l ∷ []) front) found.1)
+pub joined-start : (r : Result (List Command) ParseError) → joined [] r ≡ r
+joined-start (Ok ds) = refl
+joined-start (Err e) = refl
 
--- a script has no line outside the grammar
-pub script-no_fault : (lines : List (List ℕ)) (commands : List Command) (number : ℕ) → IsScript lines commands → ¬ IsFault lines number
-script-no_fault lines commands number s f =
-    let found = line-at [] f.before f.line f.after commands (subst (λ ls. AreLines [] ls commands) f.parts s) in
-    f.bad found.0 found.1
+pub script-start : (input : Input) (lines : List (List ℕ)) → joined [] (read_lines input 1 (record { repeated = 0; divided = false; second = None }) lines) ≡ script input lines
+unfolding script
+script-start input lines = joined-start _
 
--- how far a text was read
-pub record SoFar (lines rest : List (List ℕ)) (commands : List Command) (puts : ℕ) : Type 0 where
-  pub before : List (List ℕ)
-  pub parts : lines ≡ before ++ rest
-  pub good : IsScript before commands
-  pub counted : puts ≡ count_by is_put_line before
-  pub many : length commands ≡ length before
+pub joined-fault : (input : Input) (number : ℕ) (before : Before) (cs : List Command) (line : List ℕ) (lines : List (List ℕ)) (r : Rule) → line_meaning input before line ≡ Err r → joined cs (read_lines input number before (line ∷ lines)) ≡ Err (Syntax number (rule_number r))
+joined-fault input number before cs line lines r e = rw e refl
 
-pub SoFar-new : (lines : List (List ℕ)) → SoFar lines lines [] 0
-SoFar-new lines = record { before = []; parts = refl; good = tt; counted = refl; many = refl }
+joined-more : (cs : List Command) (c : Option Command) (r : Result (List Command) ParseError) → joined cs (with_command c r) ≡ joined (cs ++ option_to_list c) r
+joined-more cs None (Ok ds) = ap (λ xs. Ok (xs ++ ds)) (sym (append-nil cs))
+joined-more cs None (Err e) = refl
+joined-more cs (Some c) (Ok ds) = ap (λ xs. Ok xs) (sym (append_assoc cs (c ∷ []) ds))
+joined-more cs (Some c) (Err e) = refl
 
-abbrev pub one_if : Bool → ℕ
-one_if b = cond b 1 0
+pub joined-next : (input : Input) (number : ℕ) (before : Before) (cs : List Command) (line : List ℕ) (lines : List (List ℕ)) (made : Made) → line_meaning input before line ≡ Ok made → joined cs (read_lines input number before (line ∷ lines)) ≡ joined (cs ++ option_to_list made.command) (read_lines input (number + 1) (after number before made) lines)
+joined-next input number before cs line lines made e = rw e (joined-more cs made.command (read_lines input (number + 1) (after number before made) lines))
 
-pub byte-one : (b : Bool) → bool_byte b ≡ one_if b
-byte-one true = refl
-byte-one false = refl
+pub joined-end : (input : Input) (number : ℕ) (before : Before) (cs : List Command) (rest : List ℕ) → length rest ≡ 0 → joined cs (read_lines input number before (lines_of rest)) ≡ joined cs (ended input number before)
+unfolding lines_of
+joined-end input number before cs [] h = refl
+joined-end input number before cs (b ∷ rest) h = absurd (cc h)
 
-counted-more : (before : List (List ℕ)) (line : List ℕ) → count_by is_put_line (before ++ line ∷ []) ≡ count_by is_put_line before + one_if (is_put_line line)
-counted-more before line = sum_by-append (λ x. cond (is_put_line x) 1 0) before (line ∷ []) ∙ grind arith
+pub joined-ok : (cs : List Command) (r : Result (List Command) ParseError) → r ≡ Ok [] → joined cs r ≡ Ok cs
+joined-ok cs r e = ap (joined cs) e ∙ ap (λ xs. Ok xs) (append-nil cs)
 
-pub SoFar-next : (lines : List (List ℕ)) (line : List ℕ) (rest : List (List ℕ)) (commands : List Command) (puts : ℕ) (c : Command) → SoFar lines (line ∷ rest) commands puts → puts + one_if (is_put_line line) ≤ 64 → IsPlaced (length commands) c → line ≡ command_text c → SoFar lines rest (commands ++ c ∷ []) (puts + one_if (is_put_line line))
-SoFar-next lines line rest commands puts c so_far few placed spelled =
-    let before = so_far.before in
-    let counted : puts + one_if (is_put_line line) ≡ count_by is_put_line (before ++ line ∷ []) = ap (λ n. n + one_if (is_put_line line)) so_far.counted ∙ sym (counted-more before line) in
-    record {
-      before = before ++ line ∷ [];
-      parts = so_far.parts ∙ sym (append_assoc before (line ∷ []) rest);
-      good = AreLines-push [] before commands line c so_far.good (record {
-        spelled = spelled;
-        placed = subst (λ n. IsPlaced n c) so_far.many placed;
-        few = subst (λ n. n ≤ 64) counted few;
-      });
-      counted = counted;
-      many = simp length-append (ap (λ n. n + 1) so_far.many);
-    }
+pub explains : (r : Result (List Command) ParseError) (e : ParseError) → r ≡ Err e → Explains r e
+explains r (Syntax line rule) h = h
+explains r Memory h = tt
 
-pub SoFar-many : (lines : List (List ℕ)) (line : List ℕ) (rest : List (List ℕ)) (commands : List Command) (puts : ℕ) → SoFar lines (line ∷ rest) commands puts → 64 < puts + one_if (is_put_line line) → IsFault lines (length commands + 1)
-SoFar-many lines line rest commands puts so_far many =
-    let before = so_far.before in
-    record {
-      before = before;
-      line = line;
-      after = rest;
-      parts = so_far.parts;
-      place = ap (λ n. n + 1) so_far.many;
-      commands = commands;
-      good = so_far.good;
-      bad = λ c is. (let few = is.few in let more = counted-more before line in let same = so_far.counted in absurd (omega (arith, few, more, same, many)));
-    }
-
-pub SoFar-none : (lines : List (List ℕ)) (line : List ℕ) (rest : List (List ℕ)) (commands : List Command) (puts : ℕ) → SoFar lines (line ∷ rest) commands puts → ((c : Command) → IsPlaced (length commands) c → ¬ (line ≡ command_text c)) → IsFault lines (length commands + 1)
-SoFar-none lines line rest commands puts so_far none =
-    record {
-      before = so_far.before;
-      line = line;
-      after = rest;
-      parts = so_far.parts;
-      place = ap (λ n. n + 1) so_far.many;
-      commands = commands;
-      good = so_far.good;
-      bad = λ c is. none c (subst (λ n. IsPlaced n c) (sym so_far.many) is.placed) is.spelled;
-    }
-
-pub SoFar-end : (lines rest : List (List ℕ)) (commands : List Command) (puts : ℕ) → SoFar lines rest commands puts → rest ≡ [] → IsScript lines commands
-SoFar-end lines rest commands puts so_far e =
-    subst (λ ls. IsScript ls commands) (sym (so_far.parts ∙ ap (λ rs. so_far.before ++ rs) e ∙ append-nil so_far.before)) so_far.good
-
--- a text has no more lines than bytes, and a script as many commands as lines
+-- a text has no more lines than bytes, and a script no more commands than lines
 add-few : (b n : ℕ) (lines : List (List ℕ)) → length lines ≤ n → length (add_byte b lines) ≤ n + 1
 add-few b n [] h = omega arith
 add-few b n (line ∷ lines) h = omega (arith, h)
 
-lines-few : (text : List ℕ) → length (lines_of text) ≤ length text
-lines-few [] = omega arith
-lines-few (b ∷ rest) =
-    (elim (b == 10) as (λ (t : Bool). length (cond t ([] ∷ lines_of rest) (add_byte b (lines_of rest))) ≤ length (b ∷ rest)) [
-      | true ↦ omega (arith, lines-few rest)
-      | false ↦ omega (arith, add-few b (length rest) (lines_of rest) (lines-few rest))
+pieces-few : (end : ℕ) (text : List ℕ) → length (pieces_of end text) ≤ length text
+pieces-few end [] = omega arith
+pieces-few end (b ∷ rest) =
+    (elim (b == end) as (λ (t : Bool). length (cond t ([] ∷ pieces_of end rest) (add_byte b (pieces_of end rest))) ≤ length (b ∷ rest)) [
+      | true ↦ omega (arith, pieces-few end rest)
+      | false ↦ omega (arith, add-few b (length rest) (pieces_of end rest) (pieces-few end rest))
     ])
 
-as-many : (before lines : List (List ℕ)) (commands : List Command) → AreLines before lines commands → length commands ≡ length lines
-as-many before [] [] h = refl
-as-many before [] (c ∷ commands) h = absurd h
-as-many before (line ∷ lines) [] h = absurd h
-as-many before (line ∷ lines) (c ∷ commands) h = omega (arith, as-many (before ++ line ∷ []) lines commands h.1)
+returns-few : (text : List ℕ) → length (without_returns text) ≤ length text
+returns-few [] = omega arith
+returns-few (b ∷ rest) =
+    (elim (b == 13 && begins_with 10 rest) as (λ (t : Bool). length (cond t (without_returns rest) (b ∷ without_returns rest)) ≤ length (b ∷ rest)) [
+      | true ↦ omega (arith, returns-few rest)
+      | false ↦ omega (arith, returns-few rest)
+    ])
 
-pub commands-few : (text : List ℕ) (commands : List Command) → IsScript (lines_of text) commands → length commands ≤ length text
-commands-few text commands s = omega (arith, as-many [] (lines_of text) commands s, lines-few text)
+abbrev many : Result (List Command) ParseError → ℕ
+many (Ok cs) = length cs
+many (Err e) = 0
 
-abbrev head_or : List ℕ → List (List ℕ) → List ℕ
-head_or d [] = d
-head_or d (x ∷ xs) = x
+with-few : (c : Option Command) (r : Result (List Command) ParseError) → many (with_command c r) ≤ many r + 1
+with-few None r = omega arith
+with-few (Some c) (Ok cs) = omega arith
+with-few (Some c) (Err e) = omega arith
 
-abbrev tail : List (List ℕ) → List (List ℕ)
-tail [] = []
-tail (x ∷ xs) = xs
-
--- of two places in a list the one is the other, or comes before it
-data Places (xs : List (List ℕ)) (x : List ℕ) (ys : List (List ℕ)) (y : List ℕ) : Type 0 where
-  same : xs ≡ ys → Places xs x ys y
-  before : (more : List (List ℕ)) → ys ≡ xs ++ x ∷ more → Places xs x ys y
-  behind : (more : List (List ℕ)) → xs ≡ ys ++ y ∷ more → Places xs x ys y
-
-places-more : (z : List ℕ) (xs : List (List ℕ)) (x : List ℕ) (ys : List (List ℕ)) (y : List ℕ) → Places xs x ys y → Places (z ∷ xs) x (z ∷ ys) y
-places-more z xs x ys y (same e) = same (ap (λ zs. z ∷ zs) e)
-places-more z xs x ys y (before more e) = before more (ap (λ zs. z ∷ zs) e)
-places-more z xs x ys y (behind more e) = behind more (ap (λ zs. z ∷ zs) e)
-
-places : (xs : List (List ℕ)) (x : List ℕ) (xs' ys : List (List ℕ)) (y : List ℕ) (ys' : List (List ℕ)) → xs ++ x ∷ xs' ≡ ys ++ y ∷ ys' → Places xs x ys y
-places [] x xs' [] y ys' e = same refl
-places [] x xs' (b ∷ ys) y ys' e = before ys (ap (λ z. z ∷ ys) (sym (ap (head_or []) e)))
-places (a ∷ xs) x xs' [] y ys' e = behind xs (ap (λ z. z ∷ xs) (ap (head_or []) e))
-places (a ∷ xs) x xs' (b ∷ ys) y ys' e =
-    subst (λ z. Places (a ∷ xs) x (z ∷ ys) y) (ap (head_or []) e) (places-more a xs x ys y (places xs x xs' ys y ys' (ap tail e)))
-
-not-before : (lines : List (List ℕ)) (f g : ℕ) (first : IsFault lines f) (second : IsFault lines g) (more : List (List ℕ)) → ¬ (second.before ≡ first.before ++ first.line ∷ more)
-not-before lines f g first second more e =
-    let found = line-at [] first.before first.line more second.commands (subst (λ ls. AreLines [] ls second.commands) e second.good) in
-    first.bad found.0 found.1
-
--- a text has one first line outside the grammar
-pub faults-same : (lines : List (List ℕ)) (f g : ℕ) → IsFault lines f → IsFault lines g → f ≡ g
-faults-same lines f g first second = by (places first.before first.line first.after second.before second.line second.after (sym first.parts ∙ second.parts))
+end-few : (input : Input) (number : ℕ) (before : Before) → many (ended input number before) ≡ 0
+end-few input.Run number before = refl
+end-few input.Live number before = by before.divided before.second
   where
-    by : Places first.before first.line second.before second.line → f ≡ g
-    by (same e) = first.place ∙ ap (λ ls. length ls + 1) e ∙ sym second.place
-    by (before more e) = absurd (not-before lines f g first second more e)
-    by (behind more e) = absurd (not-before lines g f second first more e)
+    by : (b : Bool) (o : Option ℕ) → many (cond b (second_divider o) (Err (Syntax number 9))) ≡ 0
+    by true None = refl
+    by true (Some n) = refl
+    by false o = refl
+
+line-few : (number : ℕ) (reading : Result Made Rule) (rest : Made → Result (List Command) ParseError) (n : ℕ) → ((made : Made) → many (rest made) ≤ n) → many (read_on number reading rest) ≤ n + 1
+line-few number (Ok made) rest n few = omega (arith, with-few made.command (rest made), few made)
+line-few number (Err e) rest n few = omega arith
+
+lines-few : (input : Input) (number : ℕ) (before : Before) (lines : List (List ℕ)) → many (read_lines input number before lines) ≤ length lines
+lines-few input number before [] = omega (arith, end-few input number before)
+lines-few input number before (line ∷ lines) =
+    let few = line-few number (line_meaning input before line) (λ made. read_lines input (number + 1) (after number before made) lines) (length lines) (λ made. lines-few input (number + 1) (after number before made) lines) in
+    omega (arith, few)
+
+pub commands-few : (text : List ℕ) (commands : List Command) → script input.Run (lines_of text) ≡ Ok commands → length commands ≤ length text
+unfolding script lines_of
+commands-few text commands h =
+    let lines = pieces_of 10 (without_returns text) in
+    let same : many (read_lines input.Run 1 (record { repeated = 0; divided = false; second = None }) lines) ≡ length commands = ap many h in
+    omega (arith, same, lines-few input.Run 1 (record { repeated = 0; divided = false; second = None }) lines, pieces-few 10 (without_returns text), returns-few text)

@@ -25,17 +25,33 @@ abbrev pub only_if : Bool → Option Event → Option Event
 only_if true e = e
 only_if false e = None
 
--- the next event of a command
+-- the command's events follow from the state too
+abbrev pub asks_state : Command → Bool
+asks_state (command.SyncAll c) = true
+asks_state (command.Promote c) = true
+asks_state command.Drain = true
+asks_state _ = false
+
+-- the next event of a command that doesn't ask for the state
 abbrev pub next_event : Command → List Reply → Option Event
 next_event (command.Single e) [] = Some e
 next_event (command.Single e) (x ∷ xs) = None
 next_event (command.Open c r s) [] = Some (event.OpenBegin c r s)
 next_event (command.Open c r s) (begun ∷ []) = only_if (passes begun) (Some (event.OpenEnd c r))
 next_event (command.Open c r s) (x ∷ y ∷ xs) = None
+next_event (command.Close c r) [] = Some (event.CloseBegin c r)
+next_event (command.Close c r) (begun ∷ []) = only_if (passes begun) (Some (event.CloseEnd c r))
+next_event (command.Close c r) (x ∷ y ∷ xs) = None
+next_event (command.Move c r s) [] = Some (event.CloseBegin c r)
+next_event (command.Move c r s) (begun ∷ []) = only_if (passes begun) (Some (event.CloseEnd c r))
+next_event (command.Move c r s) (x ∷ closed ∷ []) = only_if (passes closed) (Some (event.OpenBegin c r s))
+next_event (command.Move c r s) (x ∷ y ∷ begun ∷ []) = only_if (passes begun) (Some (event.OpenEnd c r))
+next_event (command.Move c r s) (x ∷ y ∷ z ∷ w ∷ xs) = None
 next_event (command.Ship c p s) [] = Some (event.Send c p s 25)
 next_event (command.Ship c p s) (sent ∷ []) = option_map event.Deliver (flight_sent sent)
 next_event (command.Ship c p s) (sent ∷ arrived ∷ []) = only_if (passes arrived) (option_map event.Confirm (flight_sent sent))
 next_event (command.Ship c p s) (x ∷ y ∷ z ∷ xs) = None
+next_event _ replies = None
 
 -- the records are the command's next events after these replies, made by the script
 abbrev pub GoesOn : Command → List Reply → List Record → Type 0

@@ -1,96 +1,130 @@
--- Which texts are scripts: each line spells a command that may stand there.
-use Rattle.std.specs.Prelude.{ℕ, ◌≡◌, ◌+◌, ◌^◌, ◌<◌, ◌≤◌, ◌==◌, ◌⊎◌, ◌&&◌, ◌||◌, nat_le, Bool, true, List, [], ◌∷◌, ◌++◌, length, take, codes, count_by, slice_get, Some, None}
+-- What a line means, and which rule it breaks first.
+use Rattle.std.specs.Prelude.{ℕ, ◌≡◌, ◌+◌, ◌&&◌, ◌||◌, nat_le, Bool, true, false, List, [], ◌∷◌, Option, Some, None, Result, Ok, Err, if◌then◌else◌}
 use Rattle.std.specs.List.{list_all}
-use Rattle.std.specs.Str.{bytes_eq}
-use Rattle.rep_types.specs.Text.{key_refusal}
-use Rattle.rep_types.specs.declared.ids.Cluster.TheVariants.{A, B}
-use Rattle.rep_types.specs.declared.cell.CellKind.TheVariants.{Put}
-use Rattle.rep_types.specs.declared.event.Event.TheVariants as event
-use Rattle.rep_types.specs.declared.state.Kind.TheVariants as kind
-use Rattle.rep_types.specs.declared.cell.Cell.{Cell}
-use Rattle.script_text.specs.Commands.{command_text}
+use Rattle.std.specs.Option.{option_or}
 use Rattle.script_text.specs.declared.command.Command.{Command}
 use Rattle.script_text.specs.declared.command.Command.TheVariants as command
+use Rattle.script_text.specs.declared.command.Input.{Input}
+use Rattle.script_text.specs.declared.command.Input.TheVariants as input
+use Rattle.script_text.specs.declared.head.Alone.TheVariants as alone_word
+use Rattle.script_text.specs.declared.head.Head.{Head}
+use Rattle.script_text.specs.declared.head.Head.TheVariants as head
+use Rattle.script_text.specs.declared.line.Before.{Before}
+use Rattle.script_text.specs.declared.line.Made.{Made}
+use Rattle.script_text.specs.declared.parser.ParseError.{ParseError}
+use Rattle.script_text.specs.declared.parser.ParseError.TheVariants.{Syntax}
+use Rattle.script_text.specs.declared.rule.Rule.{Rule}
+use Rattle.script_text.specs.declared.rule.Rule.TheVariants as rule
+use Rattle.script_text.specs.Heads.{head_of, is_barred, is_performed}
+use Rattle.script_text.specs.Lines.{begins_with}
+use Rattle.script_text.specs.Meanings.{alone, on_cluster, on_server, on_region, on_peer, on_place, on_flight, ship, send, merge, claim, transit, fail, keep, table, get, show, split, peer}
+use Rattle.script_text.specs.Parsing.{rule_number}
+use Rattle.script_text.specs.Puts.{put}
+use Rattle.script_text.specs.Steps.{◌>>=◌, and_then}
+use Rattle.script_text.specs.Words.{words_of}
 
--- table t
-abbrev pub t : List ℕ
-t = codes "t"
+abbrev pub is_printable : ℕ → Bool
+is_printable b = nat_le 32 b && nat_le b 126
 
--- the commands of the first lines, in this order
-abbrev pub opening : List Command
-opening =
-    command.Single (event.Server A 1)
-    ∷ command.Single (event.Server B 1)
-    ∷ command.Single (event.Table A t (record { name = codes "f"; scope = 1 } ∷ []))
-    ∷ command.Single (event.Table B t (record { name = codes "f"; scope = 1 } ∷ []))
-    ∷ command.Open A 1 1
-    ∷ command.Open B 1 1
-    ∷ command.Single (event.Peer A 1 kind.Plain (t ∷ []))
-    ∷ []
+-- `--` stands in the input of `live` alone
+abbrev pub is_in : Input → Head → Bool
+is_in input.Run (head.Alone alone_word.Divider) = false
+is_in input h = true
 
--- a letter, a digit, `_` or `.`
-abbrev pub is_value_byte : ℕ → Bool
-is_value_byte b =
-    (nat_le 97 b && nat_le b 122) || ((nat_le 65 b && nat_le b 90) || ((nat_le 48 b && nat_le b 57) || ((b == 95) || (b == 46))))
+-- a known first word
+unfoldable pub known_head : Input → List ℕ → Option Head
+known_head input word = and_then (head_of word) (λ h. if is_performed h && is_in input h then Some h else None)
 
--- a value of at most 31 of these
-abbrev pub is_short : List ℕ → Bool
-is_short value = nat_le (length value) 31 && list_all is_value_byte value
+-- a command that repeats no value
+abbrev pub of_command : ℕ → Result Command Rule → Result Made Rule
+of_command repeated reading = reading >>= λ c. Ok (record { command = Some c; repeated = repeated })
 
-abbrev pub cell : ℕ → List ℕ → Cell
-cell stamp value = record { family = codes "f"; qualifier = codes "q"; stamp = stamp; kind = Put value }
+-- what the words behind a first word mean
+unfoldable pub meaning : ℕ → Head → List (List ℕ) → Result Made Rule
+meaning repeated (head.OnCluster word) args = of_command repeated (on_cluster word args)
+meaning repeated (head.OnServer word) args = of_command repeated (on_server word args)
+meaning repeated (head.OnRegion word) args = of_command repeated (on_region word args)
+meaning repeated (head.OnPeer word) args = of_command repeated (on_peer word args)
+meaning repeated (head.OnPlace word) args = of_command repeated (on_place word args)
+meaning repeated (head.OnFlight word) args = of_command repeated (on_flight word args)
+meaning repeated (head.Alone word) args = of_command repeated (alone word args)
+meaning repeated head.Table args = of_command repeated (table args)
+meaning repeated head.Put args = put repeated args
+meaning repeated head.Get args = of_command repeated (get args)
+meaning repeated head.Show args = of_command repeated (show args)
+meaning repeated head.Split args = of_command repeated (split args)
+meaning repeated head.Merge args = of_command repeated (merge args)
+meaning repeated head.Peer args = of_command repeated (peer args)
+meaning repeated head.Ship args = of_command repeated (ship args)
+meaning repeated head.Send args = of_command repeated (send args)
+meaning repeated head.Claim args = of_command repeated (claim args)
+meaning repeated head.TransitBegin args = of_command repeated (transit args)
+meaning repeated head.Fail args = of_command repeated (fail args)
+meaning repeated head.Keep args = of_command repeated (keep args)
 
--- a put of one cell into a row of t
-pub record IsPut (c : Command) : Type 0 where
-  pub row : List ℕ
-  pub stamp : ℕ
-  pub value : List ℕ
-  pub is : c ≡ command.Single (event.Put A t row (cell stamp value ∷ []))
-  pub key : key_refusal row ≡ None
-  pub fits : stamp < 2 ^ 64
-  pub short : is_short value ≡ true
+-- rule 10 comes before every rule but 1 and 2
+abbrev pub barred : Bool → Result Made Rule → Result Made Rule
+barred false reading = reading
+barred true (Err rule.Words) = Err rule.Words
+barred true _ = Err rule.Behind
 
--- a command of a later line
-abbrev pub IsLater : Command → Type 0
-IsLater c =
-    IsPut c
-    ⊎ ((c ≡ command.Single (event.Sync A 1))
-    ⊎ ((c ≡ command.Ship A 1 1)
-    ⊎ ((c ≡ command.Single (event.Show A t))
-    ⊎ (c ≡ command.Single (event.Show B t)))))
+abbrev pub head_line : Before → Option Head → List (List ℕ) → Result Made Rule
+head_line before None args = Err rule.Words
+head_line before (Some h) args = barred (before.divided && is_barred h) (meaning before.repeated h args)
 
--- the command may stand in a line that so many came before
-abbrev pub IsPlaced : ℕ → Command → Type 0
-IsPlaced n c = (slice_get opening n ≡ Some c) ⊎ ((length opening ≤ n) × IsLater c)
+-- a line without words, and a comment, do nothing
+unfoldable pub words_line : Input → Before → List (List ℕ) → Result Made Rule
+words_line input before [] = Ok (record { command = None; repeated = before.repeated })
+words_line input before (word ∷ args) =
+    if begins_with 35 word then Ok (record { command = None; repeated = before.repeated }) else head_line before (known_head input word) args
 
--- the line of a put
-abbrev pub is_put_line : List ℕ → Bool
-is_put_line line = bytes_eq (take 4 line) (codes "put ")
+unfoldable pub line_meaning : Input → Before → List ℕ → Result Made Rule
+line_meaning input before line = if list_all is_printable line then words_line input before (words_of line) else Err rule.Byte
 
--- after these lines this one may come, with this command; no more than 64 lines are puts
-pub record IsLine (before : List (List ℕ)) (line : List ℕ) (c : Command) : Type 0 where
-  pub spelled : line ≡ command_text c
-  pub placed : IsPlaced (length before) c
-  pub few : count_by is_put_line (before ++ line ∷ []) ≤ 64
+abbrev pub is_divider : Option Command → Bool
+is_divider (Some command.Divider) = true
+is_divider _ = false
 
--- after some lines these may come, with these commands
-abbrev pub AreLines : List (List ℕ) → List (List ℕ) → List Command → Type 0
-AreLines before [] [] = Unit {0}
-AreLines before [] (c ∷ commands) = ⊥
-AreLines before (line ∷ lines) [] = ⊥
-AreLines before (line ∷ lines) (c ∷ commands) = IsLine before line c × AreLines (before ++ line ∷ []) lines commands
+-- what a line of this number leaves
+unfoldable pub after : ℕ → Before → Made → Before
+after number before made = record {
+  repeated = made.repeated;
+  divided = before.divided || is_divider made.command;
+  second = option_or before.second (if before.divided && is_divider made.command then Some number else None);
+}
+
+abbrev pub with_command : Option Command → Result (List Command) ParseError → Result (List Command) ParseError
+with_command None reading = reading
+with_command (Some c) (Ok cs) = Ok (c ∷ cs)
+with_command (Some c) (Err e) = Err e
+
+abbrev pub read_on : ℕ → Result Made Rule → (Made → Result (List Command) ParseError) → Result (List Command) ParseError
+read_on number (Err r) rest = Err (Syntax number (rule_number r))
+read_on number (Ok made) rest = with_command made.command (rest made)
+
+abbrev pub second_divider : Option ℕ → Result (List Command) ParseError
+second_divider None = Ok []
+second_divider (Some number) = Err (Syntax number 9)
+
+-- behind the last line, whose number is one less: rule 9
+abbrev pub ended : Input → ℕ → Before → Result (List Command) ParseError
+ended input.Run number before = Ok []
+ended input.Live number before = if before.divided then second_divider before.second else Err (Syntax number 9)
+
+-- the commands of lines from this number on, or the first fault
+abbrev pub read_lines : Input → ℕ → Before → List (List ℕ) → Result (List Command) ParseError
+read_lines input number before [] = ended input number before
+read_lines input number before (line ∷ lines) =
+    read_on number (line_meaning input before line) (λ made. read_lines input (number + 1) (after number before made) lines)
+
+-- the commands of a script's lines, or the first line outside the grammar with the first rule that it breaks
+unfoldable pub script : Input → List (List ℕ) → Result (List Command) ParseError
+script input lines = read_lines input 1 (record { repeated = 0; divided = false; second = None }) lines
 
 -- the lines are a script of these commands
-abbrev pub IsScript : List (List ℕ) → List Command → Type 0
-IsScript lines commands = AreLines [] lines commands
+abbrev pub IsScript : Input → List (List ℕ) → List Command → Type 0
+IsScript input lines commands = script input lines ≡ Ok commands
 
--- the first line, counted from 1, that is outside the grammar
-pub record IsFault (lines : List (List ℕ)) (number : ℕ) : Type 0 where
-  pub before : List (List ℕ)
-  pub line : List ℕ
-  pub after : List (List ℕ)
-  pub parts : lines ≡ before ++ line ∷ after
-  pub place : number ≡ length before + 1
-  pub commands : List Command
-  pub good : IsScript before commands
-  pub bad : (c : Command) → ¬ IsLine before line c
+-- this line is the first outside the grammar, and this rule the first that it breaks
+abbrev pub IsFault : Input → List (List ℕ) → ℕ → ℕ → Type 0
+IsFault input lines line rule = script input lines ≡ Err (Syntax line rule)

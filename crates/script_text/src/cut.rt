@@ -1,5 +1,5 @@
-ghost use Rattle.std.specs.Prelude.{◌≡◌, ◌==◌, ◌++◌, ◌∷◌, ℕ, List, position, IfSome, IsNone};
-ghost use Rattle.script_text.specs.Cut.{Lacks};
+ghost use Rattle.std.specs.Prelude.{◌≡◌, ◌==◌, ℕ, List, position, IfSome, IsNone, Some, None};
+ghost use Rattle.script_text.specs.Cut.{cut_of, ends_with};
 
 fn first_such(text: &[u8], byte: u8) -> Option<usize>
     ensures { result ≡ position (λ b. b == byte) text.now }
@@ -9,9 +9,8 @@ fn first_such(text: &[u8], byte: u8) -> Option<usize>
 
 /// What comes before the first such byte, and what comes behind it.
 pub fn cut(text: &[u8], byte: u8) -> Option<(&[u8], &[u8])>
-    ensures parts { IfSome result (λ parts. text.now ≡ parts.0.now ++ byte ∷ parts.1.now) }
-    ensures first { IfSome result (λ parts. Lacks byte parts.0.now) }
-    ensures none { IsNone result → Lacks byte text.now }
+    ensures parts { IfSome result (λ parts. cut_of byte text.now ≡ Some (parts.0.now, parts.1.now)) }
+    ensures none { IsNone result → cut_of byte text.now ≡ None }
 {
     match first_such(text, byte) {
         Some(at) => Some((&text[..at], &text[at + 1..])),
@@ -19,13 +18,11 @@ pub fn cut(text: &[u8], byte: u8) -> Option<(&[u8], &[u8])>
     }
 }
 
-/// What comes behind a prefix.
-pub fn rest_after<'a>(text: &'a [u8], prefix: &[u8]) -> Option<&'a [u8]>
-    ensures behind { IfSome result (λ rest. text.now ≡ prefix.now ++ rest.now) }
-    ensures none { IsNone result → (rest : List ℕ) → ¬ (text.now ≡ prefix.now ++ rest) }
+pub fn ends_with(text: &[u8], byte: u8) -> bool
+    ensures { result ≡ ends_with byte text.now }
 {
-    match text.strip_prefix(prefix) {
-        Some(rest) => Some(rest),
-        None => None,
+    match text.split_last() {
+        Some((last, _)) => *last == byte,
+        None => false,
     }
 }

@@ -1,7 +1,7 @@
 // The events of a command, one after the other.
-ghost use Rattle.std.specs.Prelude.{◌≡◌, ◌<◌, length, IfOk, IfSome};
+ghost use Rattle.std.specs.Prelude.{◌≡◌, ◌<◌, false, length, IfOk, IfSome};
 ghost use Rattle.std.specs.Option.{option_map};
-ghost use Rattle.script_text.specs.Expansion.{passes, flight_sent, only_if, next_event};
+ghost use Rattle.script_text.specs.Expansion.{passes, flight_sent, only_if, asks_state, next_event};
 
 use crate::Command;
 use rep_types::{Cluster, Duplicate, Event, Memory, PeerId, RegionId, Reply, ServerId};
@@ -36,7 +36,7 @@ fn open_event(
     replies: &[Reply],
 ) -> Option<Event>
     ensures event { result ≡ next_event (Command.Open cluster region server) replies.now }
-    ensures few { IfSome result (λ _. length replies.now < 3) }
+    ensures few { IfSome result (λ _. length replies.now < 4) }
 {
     match replies {
         [] => Some(Event::OpenBegin {
@@ -49,9 +49,42 @@ fn open_event(
     }
 }
 
+fn close_event(cluster: Cluster, region: RegionId, replies: &[Reply]) -> Option<Event>
+    ensures event { result ≡ next_event (Command.Close cluster region) replies.now }
+    ensures few { IfSome result (λ _. length replies.now < 4) }
+{
+    match replies {
+        [] => Some(Event::CloseBegin { cluster, region }),
+        [begun] if passes(begun) => Some(Event::CloseEnd { cluster, region }),
+        _ => None,
+    }
+}
+
+fn move_event(
+    cluster: Cluster,
+    region: RegionId,
+    server: ServerId,
+    replies: &[Reply],
+) -> Option<Event>
+    ensures event { result ≡ next_event (Command.Move cluster region server) replies.now }
+    ensures few { IfSome result (λ _. length replies.now < 4) }
+{
+    match replies {
+        [] => Some(Event::CloseBegin { cluster, region }),
+        [begun] if passes(begun) => Some(Event::CloseEnd { cluster, region }),
+        [_, closed] if passes(closed) => Some(Event::OpenBegin {
+            cluster,
+            region,
+            server,
+        }),
+        [_, _, begun] if passes(begun) => Some(Event::OpenEnd { cluster, region }),
+        _ => None,
+    }
+}
+
 fn ship_event(cluster: Cluster, peer: PeerId, server: ServerId, replies: &[Reply]) -> Option<Event>
     ensures event { result ≡ next_event (Command.Ship cluster peer server) replies.now }
-    ensures few { IfSome result (λ _. length replies.now < 3) }
+    ensures few { IfSome result (λ _. length replies.now < 4) }
 {
     match replies {
         [] => Some(Event::Send {
@@ -90,8 +123,9 @@ fn confirm_event(sent: &Reply, arrived: &Reply) -> Option<Event>
 impl Command {
     /// The command's next event, after the replies to its earlier ones. A command goes on after `ok` and `all` alone.
     pub fn next_event(&self, alloc: Global, replies: &[Reply]) -> Result<Option<Event>, Memory>
+        requires { asks_state self.now ≡ false }
         ensures event { IfOk result (λ made. made ≡ next_event self.now replies.now) }
-        ensures few { IfOk result (λ made. IfSome made (λ _. length replies.now < 3)) }
+        ensures few { IfOk result (λ made. IfSome made (λ _. length replies.now < 4)) }
     {
         Ok(match self {
             Command::Single(event) if replies.is_empty() => Some(event.copy(alloc)?),
@@ -101,11 +135,18 @@ impl Command {
                 region,
                 server,
             } => open_event(*cluster, *region, *server, replies),
+            Command::Close { cluster, region } => close_event(*cluster, *region, replies),
+            Command::Move {
+                cluster,
+                region,
+                server,
+            } => move_event(*cluster, *region, *server, replies),
             Command::Ship {
                 cluster,
                 peer,
                 server,
             } => ship_event(*cluster, *peer, *server, replies),
+            _ => None,
         })
     }
 }

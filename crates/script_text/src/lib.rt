@@ -1,15 +1,27 @@
 //! Scripts: their grammar, and the events that their commands make. The rules are this project's own.
 #![tactic(auto)]
 
+mod cells;
 mod command;
 mod cut;
 mod expand;
-mod fixed;
+mod forms;
+mod generator;
+mod head;
+mod kept;
+mod line;
 mod lines;
+mod lists;
+mod makings;
 mod parser;
 mod put;
+mod read;
+mod rule;
 #[cfg(test)]
 mod tests;
+mod words;
 
-pub use command::{Command, Commands};
+pub use command::{Command, Commands, Input};
+pub use generator::generate;
 pub use parser::{ParseError, parse};
+use rule::Rule;

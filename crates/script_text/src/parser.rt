@@ -1,23 +1,20 @@
-ghost use Rattle.std.specs.Prelude.{◌≡◌, ◌+◌, ◌^◌, ◌<◌, ◌≤◌, length, slice_get, codes, take, IfOk, IfErr, IfSome, IsNone};
-ghost use Rattle.script_text.specs.Commands.{command_text};
-ghost use Rattle.script_text.specs.Grammar.{opening, IsLater, IsPlaced, IsScript, is_put_line};
+ghost use Rattle.std.specs.Prelude.{◌≡◌, ◌+◌, ◌^◌, ◌<◌, ◌++◌, [], length, IfOk, IfErr, OnOk, Ok, Err};
+ghost use Rattle.std.specs.Option.{option_to_list};
+ghost use Rattle.script_text.specs.Grammar.{after, ended, is_divider, script, IsScript};
 ghost use Rattle.script_text.specs.Lines.{lines_of};
-ghost use Rattle.script_text.specs.Parsing.{Explains};
+ghost use Rattle.script_text.specs.Parsing.{Explains, rule_number};
 
-use crate::fixed::{
-    OPENING, opening_command, opening_text, ship_command, show_command, sync_command,
-};
+use crate::line::{Before, Made, line_meaning};
 use crate::lines::first_line;
-use crate::put::put_command;
-use crate::{Command, Commands};
-use rep_types::{Cluster, Items, Memory};
+use crate::{Command, Commands, Input, Rule};
+use rep_types::{Items, Memory};
 use std::alloc::Global;
 use thiserror::Error;
 
 /// Why a text isn't performed.
 #[derive(Debug, Drop, Error)]
 pub enum ParseError {
-    /// The first line outside the grammar, counted from 1, and the rule that it breaks.
+    /// The first line outside the grammar, counted from 1, and the first rule that it breaks.
     #[error("line {line}: rule {rule}")]
     Syntax { line: u32, rule: u16 },
     #[error("out of memory")]
@@ -34,78 +31,87 @@ impl From<Memory> for ParseError {
     }
 }
 
-fn is_put_line(line: &[u8]) -> bool
-    ensures { result ≡ is_put_line line.now }
-{
-    line.starts_with(b"put ")
-}
-
-// The command of a line behind the opening ones.
-fn later_command(alloc: Global, line: &[u8]) -> Result<Option<Command>, Memory>
-    ensures found { IfOk result (λ made. IfSome made (λ c. IsLater c × (line.now ≡ command_text c))) }
-    ensures none { IfOk result (λ made. IsNone made → (c : Command) → IsLater c → ¬ (line.now ≡ command_text c)) }
-{
-    if line == b"sync a 1".as_slice() {
-        return Ok(Some(sync_command()));
-    }
-    if line == b"ship a 1 1".as_slice() {
-        return Ok(Some(ship_command()));
-    }
-    if line == b"show a t".as_slice() {
-        return Ok(Some(show_command(alloc, Cluster::A)?));
-    }
-    if line == b"show b t".as_slice() {
-        return Ok(Some(show_command(alloc, Cluster::B)?));
-    }
-    put_command(alloc, line)
-}
-
-// The command of a line that so many came before.
-fn line_command(alloc: Global, place: usize, line: &[u8]) -> Result<Option<Command>, Memory>
-    ensures found { IfOk result (λ made. IfSome made (λ c. IsPlaced place c × (line.now ≡ command_text c))) }
-    ensures none { IfOk result (λ made. IsNone made → (c : Command) → IsPlaced place c → ¬ (line.now ≡ command_text c)) }
-{
-    if place >= OPENING {
-        return later_command(alloc, line);
-    }
-    if line == opening_text(place) {
-        Ok(Some(opening_command(alloc, place)?))
-    } else {
-        Ok(None)
-    }
-}
-
-// The line behind so many breaks rule 2.
-fn fault(before: usize) -> ParseError
-    requires { before + 1 < 2 ^ 32 }
-    ensures { result ≡ ParseError.Syntax (before + 1) 2 }
+fn fault(line: u32, rule: Rule) -> ParseError
+    ensures { result ≡ ParseError.Syntax line (rule_number rule) }
 {
     ParseError::Syntax {
-        line: before as u32 + 1,
-        rule: 2,
+        line,
+        rule: rule.number(),
     }
 }
 
-/// The commands of a script, or the first line outside the grammar, which breaks rule 2. At most 64 lines are puts.
-pub fn parse(alloc: Global, script: &[u8]) -> Result<Commands, ParseError>
-    requires { length script.now + 1 < 2 ^ 32 }
-    ensures commands { IfOk result (λ commands. IsScript (lines_of script.now) commands) }
-    ensures refused { IfErr result (λ e. Explains (lines_of script.now) e) }
+fn is_divider(command: &Option<Command>) -> bool
+    ensures { result ≡ is_divider command.now }
+{
+    matches!(command, Some(Command::Divider))
+}
+
+#[tactic(auto, unfolding(crate::specs::Grammar::after))]
+fn after(number: u32, before: Before, made: &Made) -> Before
+    ensures { result ≡ after number before made.now }
+{
+    let divides = is_divider(&made.command);
+    let second = if before.divided && divides {
+        Some(number)
+    } else {
+        None
+    };
+    Before {
+        repeated: made.repeated,
+        divided: before.divided || divides,
+        second: before.second.or(second),
+    }
+}
+
+// Behind the last line, whose number is one less.
+fn ended(input: Input, number: u32, before: Before) -> Result<(), ParseError>
+    ensures ok { IfOk result (λ _. ended input number before ≡ Ok []) }
+    ensures refused { IfErr result (λ e. ended input number before ≡ Err e) }
+{
+    match (input, before.second) {
+        (Input::Run, _) => Ok(()),
+        (Input::Live, _) if !before.divided => Err(fault(number, Rule::Divider)),
+        (Input::Live, Some(second)) => Err(fault(second, Rule::Divider)),
+        (Input::Live, None) => Ok(()),
+    }
+}
+
+fn add(commands: &mut Commands, command: Option<Command>) -> Result<(), Memory>
+    ensures { OnOk result (commands.new ≡ commands.old ++ option_to_list command) }
+{
+    match command {
+        Some(command) => commands.push(command),
+        None => Ok(()),
+    }
+}
+
+/// The commands of a script, or the first line outside the grammar with the first rule that it breaks.
+pub fn parse(alloc: Global, text: &[u8], input: Input) -> Result<Commands, ParseError>
+    requires { length text.now + 1 < 2 ^ 32 }
+    ensures commands { IfOk result (λ commands. IsScript input (lines_of text.now) commands) }
+    ensures refused { IfErr result (λ e. Explains (script input (lines_of text.now)) e) }
 {
     let mut commands = Items::new(alloc);
-    let mut rest = script;
-    let mut puts = 0u32;
+    let mut rest = text;
+    let mut number = 1u32;
+    let mut before = Before {
+        repeated: 0,
+        divided: false,
+        second: None,
+    };
     while !rest.is_empty() {
-        let (line, after) = first_line(rest);
-        puts += u32::from(is_put_line(line));
-        if puts > 64 {
-            return Err(fault(commands.len()));
-        }
-        let Some(command) = line_command(alloc, commands.len(), line)? else {
-            return Err(fault(commands.len()));
+        let (line, behind) = first_line(rest);
+        let made = match line_meaning(alloc, input, before, line)? {
+            Ok(made) => made,
+            Err(rule) => return Err(fault(number, rule)),
         };
-        commands.push(command)?;
-        rest = after;
+        before = after(number, before, &made);
+        add(&mut commands, made.command)?;
+        number += 1;
+        rest = behind;
     }
-    Ok(commands)
+    match ended(input, number, before) {
+        Ok(()) => Ok(commands),
+        Err(e) => Err(e),
+    }
 }

@@ -1,161 +1,81 @@
-// The line of a put.
-ghost use Rattle.std.specs.Prelude.{◌≡◌, ◌++◌, ◌∷◌, [], ◌<◌, ◌^◌, ℕ, List, IfOk, IfSome, IsNone, IsSome, None, Some};
-ghost use Rattle.std.specs.List.{list_all};
-ghost use Rattle.std.specs.Fmt.{decimal};
-ghost use Rattle.rep_types.specs.Text.{key_refusal};
-ghost use Rattle.script_text.specs.Commands.{command_text};
-ghost use Rattle.script_text.specs.Grammar.{IsPut, t, cell, is_short, is_value_byte};
-ghost use Rattle.script_text.specs.Puts.{IsPutLine};
+// A put.
+ghost use Rattle.std.specs.Prelude.{◌≡◌, Ok, Err, IfOk, IfErr};
+ghost use Rattle.script_text.specs.Puts.{put_words, cluster_and_cells, put};
+ghost use Rattle.script_text.specs.Words.{words_of};
 
-use crate::Command;
-use crate::cut::{cut, rest_after};
-use crate::fixed::name_of;
-use rep_types::{Bytes, Cell, CellKind, Cells, Cluster, Event, Items, Key, Memory, TextError};
+use crate::cells::{cells_of, drafts_word, used_with};
+use crate::forms::{cluster_word, key_word, name_word};
+use crate::line::Made;
+use crate::words::{first_word, has_word};
+use crate::{Command, Rule};
+use rep_types::{Cluster, Event, Memory};
 use std::alloc::Global;
-use std::io::Write;
-use std::str::from_utf8;
 
-// The parts of a put's line that vary.
-#[derive(Clone, Copy)]
-struct PutWords<'a> {
-    row: &'a [u8],
-    stamp: &'a [u8],
-    value: &'a [u8],
-}
-
-fn put_words(line: &[u8]) -> Option<PutWords<'_>>
-    ensures found { IfSome result (λ words. IsPutLine line.now words.row.now words.stamp.now words.value.now) }
-    ensures none { IsNone result → (row stamp value : List ℕ) → ¬ IsPutLine line.now row stamp value }
+// Three words, and those of cells behind them.
+#[tactic(auto, unfolding(crate::specs::Puts::put_words))]
+fn put_words(text: &[u8]) -> Result<(&[u8], &[u8], &[u8], &[u8]), Rule>
+    ensures words { IfOk result (λ p. put_words (words_of text.now) ≡ Ok (p.0.now, p.1.now, p.2.now, words_of p.3.now)) }
+    ensures refused { IfErr result (λ e. put_words (words_of text.now) ≡ Err e) }
 {
-    let Some(from_row) = rest_after(line, b"put a t ") else {
-        return None;
+    let Some((cluster, rest)) = first_word(text) else {
+        return Err(Rule::Words);
     };
-    let Some((row, column)) = cut(from_row, b' ') else {
-        return None;
+    let Some((table, rest)) = first_word(rest) else {
+        return Err(Rule::Words);
     };
-    let Some(from_stamp) = rest_after(column, b"f:q@") else {
-        return None;
+    let Some((row, cells)) = first_word(rest) else {
+        return Err(Rule::Words);
     };
-    let Some((stamp, value)) = cut(from_stamp, b'=') else {
-        return None;
-    };
-    Some(PutWords { row, stamp, value })
-}
-
-fn is_value_byte(b: u8) -> bool
-    ensures { result ≡ is_value_byte b }
-{
-    b.is_ascii_alphanumeric() || b == b'_' || b == b'.'
-}
-
-fn has_value_bytes(value: &[u8]) -> bool
-    ensures { result ≡ list_all is_value_byte value.now }
-{
-    value.iter().all(|b| is_value_byte(*b))
-}
-
-fn is_short(value: &[u8]) -> bool
-    ensures { result ≡ is_short value.now }
-{
-    value.len() <= 31 && has_value_bytes(value)
-}
-
-// A number as it is printed: decimal, without leading zeros.
-fn printed(alloc: Global, number: u64) -> Result<Vec<u8>, Memory>
-    ensures { IfOk result (λ text. text.items ≡ decimal number) }
-{
-    let mut text = Vec::new(alloc);
-    match write!(text, "{number}") {
-        Ok(()) => Ok(text),
-        Err(_) => Err(Memory),
-    }
-}
-
-// The number that these digits spell, if they spell one as it is printed.
-fn parsed(digits: &[u8]) -> Option<u64>
-    ensures { (n : ℕ) → n < 2 ^ 64 → digits.now ≡ decimal n → result ≡ Some n }
-{
-    let Ok(text) = from_utf8(digits) else {
-        return None;
-    };
-    match text.parse() {
-        Ok(number) => Some(number),
-        Err(_) => None,
-    }
-}
-
-// The timestamp that these digits spell.
-fn stamp_of(alloc: Global, digits: &[u8]) -> Result<Option<u64>, Memory>
-    ensures found { IfOk result (λ made. IfSome made (λ n. digits.now ≡ decimal n)) }
-    ensures none { IfOk result (λ made. IsNone made → (n : ℕ) → n < 2 ^ 64 → ¬ (digits.now ≡ decimal n)) }
-{
-    let Some(number) = parsed(digits) else {
-        return Ok(None);
-    };
-    if printed(alloc, number)?.as_slice() == digits {
-        Ok(Some(number))
+    if has_word(cells) {
+        Ok((cluster, table, row, cells))
     } else {
-        Ok(None)
+        Err(Rule::Words)
     }
 }
 
-// The row that these bytes are.
-fn row_of(alloc: Global, bytes: &[u8]) -> Result<Option<Key>, Memory>
-    ensures found { IfOk result (λ made. IfSome made (λ key. key ≡ bytes.now)) }
-    ensures is_key { IfOk result (λ made. IsSome made → key_refusal bytes.now ≡ None) }
-    ensures none { IfOk result (λ made. IsNone made → ¬ (key_refusal bytes.now ≡ None)) }
+#[tactic(auto, unfolding(crate::specs::Puts::cluster_and_cells))]
+fn cluster_and_cells(text: &[u8]) -> Result<(Cluster, &[u8], &[u8], &[u8]), Rule>
+    ensures words { IfOk result (λ p. cluster_and_cells (words_of text.now) ≡ Ok (p.0, p.1.now, p.2.now, words_of p.3.now)) }
+    ensures refused { IfErr result (λ e. cluster_and_cells (words_of text.now) ≡ Err e) }
 {
-    let Ok(text) = from_utf8(bytes) else {
-        return Ok(None);
+    let (cluster, table, row, cells) = put_words(text)?;
+    let cluster = cluster_word(cluster)?;
+    Ok((cluster, table, row, cells))
+}
+
+/// A put, where the repeated values before it stand for so many bytes.
+#[tactic(auto, unfolding(crate::specs::Puts::put))]
+pub fn put(alloc: Global, repeated: u32, text: &[u8]) -> Result<Result<Made, Rule>, Memory>
+    ensures { IfOk result (λ made. made ≡ put repeated (words_of text.now)) }
+{
+    let (cluster, table, row, cells) = match cluster_and_cells(text) {
+        Ok(words) => words,
+        Err(rule) => return Ok(Err(rule)),
     };
-    match Key::new(alloc, text) {
-        Ok(key) => Ok(Some(key)),
-        Err(TextError::Memory) => Err(Memory),
-        Err(_) => Ok(None),
-    }
-}
-
-fn cells_of(alloc: Global, stamp: u64, value: &[u8]) -> Result<Cells, Memory>
-    ensures { IfOk result (λ cells. cells ≡ cell stamp value.now ∷ []) }
-{
-    let mut cells = Items::new(alloc);
-    cells.push(Cell {
-        family: name_of(alloc, "f")?,
-        qualifier: name_of(alloc, "q")?,
-        stamp,
-        kind: CellKind::Put(Bytes::from_slice(alloc, value)?),
-    })?;
-    Ok(cells)
-}
-
-fn put_of(alloc: Global, row: Key, stamp: u64, value: &[u8]) -> Result<Command, Memory>
-    ensures { IfOk result (λ command. command
-        ≡ Command.Single (Event.Put Cluster.A t row (cell stamp value.now ∷ []))) }
-{
-    Ok(Command::Single(Event::Put {
-        cluster: Cluster::A,
-        table: name_of(alloc, "t")?,
+    let table = match name_word(alloc, table)? {
+        Ok(table) => table,
+        Err(rule) => return Ok(Err(rule)),
+    };
+    let row = match key_word(alloc, row)? {
+        Ok(row) => row,
+        Err(rule) => return Ok(Err(rule)),
+    };
+    let drafts = match drafts_word(alloc, cells)? {
+        Ok(drafts) => drafts,
+        Err(rule) => return Ok(Err(rule)),
+    };
+    let repeated = match used_with(repeated, drafts.as_slice()) {
+        Ok(repeated) => repeated,
+        Err(rule) => return Ok(Err(rule)),
+    };
+    let command = Command::Single(Event::Put {
+        cluster,
+        table,
         row,
-        cells: cells_of(alloc, stamp, value)?,
+        cells: cells_of(alloc, drafts)?,
+    });
+    Ok(Ok(Made {
+        command: Some(command),
+        repeated,
     }))
-}
-
-/// The put that a line spells.
-pub fn put_command(alloc: Global, line: &[u8]) -> Result<Option<Command>, Memory>
-    ensures found { IfOk result (λ made. IfSome made (λ c. IsPut c × (line.now ≡ command_text c))) }
-    ensures none { IfOk result (λ made. IsNone made → (c : Command) → IsPut c → ¬ (line.now ≡ command_text c)) }
-{
-    let Some(words) = put_words(line) else {
-        return Ok(None);
-    };
-    if !is_short(words.value) {
-        return Ok(None);
-    }
-    let Some(stamp) = stamp_of(alloc, words.stamp)? else {
-        return Ok(None);
-    };
-    let Some(row) = row_of(alloc, words.row)? else {
-        return Ok(None);
-    };
-    Ok(Some(put_of(alloc, row, stamp, words.value)?))
 }

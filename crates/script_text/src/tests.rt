@@ -1,61 +1,284 @@
-ghost use Rattle.std.specs.Prelude.{◌<◌, length};
+ghost use Rattle.std.specs.Prelude.{◌≡◌, false, IfSome};
+ghost use Rattle.script_text.specs.Expansion.{asks_state};
 
 use super::*;
+use crate::generator::{drawn, next};
+use crate::head::head_of;
+use crate::line::meaning;
+use crate::words::first_word;
 use rep_types::{Cause, Cluster, Event, Items, PeerId, Refusal, Reply, ServerId};
 use std::alloc::Global;
 use std::test::Fail;
 
-const OPENING: &[u8] =
-    b"server a 1\nserver b 1\ntable a t f/1\ntable b t f/1\nopen a 1 1\nopen b 1 1\npeer a 1 plain t\n";
-
-// A put with the longest row, timestamp and value.
-const LONGEST: &[u8] =
-    b"put a t 0123456789abcdefghijklmnopqrstuvwxyz_.0123456789abcdefghijklmnop f:q@18446744073709551615=0123456789ABCDEFGHIJKLMNOPQR_.z\n";
-
-// The first line outside the grammar, counted from 1, or 0 where there is none.
-fn fault_of(alloc: Global, script: &[u8]) -> u32
-    requires { length script.now < 1000000 }
-{
-    match parse(alloc, script) {
-        Err(ParseError::Syntax { line, .. }) => line,
-        _ => 0,
+// The line and the rule of a text's fault, as one number in decimal: the rule has its last two digits. 0 where there is none.
+fn fault_of(alloc: Global, input: Input, text: &[u8]) -> u32 {
+    if text.len() > 1_048_576 {
+        return 1;
+    }
+    match parse(alloc, text, input) {
+        Err(ParseError::Syntax { line, rule }) => {
+            line.saturating_mul(100).saturating_add(u32::from(rule))
+        }
+        Err(ParseError::Memory) => 2,
+        Ok(_) => 0,
     }
 }
 
-// The same of the opening lines and these.
-fn later_fault_of(alloc: Global, lines: &[u8]) -> Result<u32, Fail>
-    requires { length lines.now < 1000 }
-{
-    let mut script = Vec::from_slice(alloc, OPENING)?;
-    script.extend_from_slice(lines)?;
-    Ok(fault_of(alloc, &script))
+static FAULTS: [(&[u8], u32); 60] = [
+    (b"", 0),
+    (b"\n\n", 0),
+    (b"server a 1\n\n# a comment\n   # another", 0),
+    (b"  server   a 1  \r\n server a 2", 0),
+    (b"server a 1\nserver b\x7f", 201),
+    (b"# \xc3\xa9\n", 101),
+    (b"   \t\n", 101),
+    (b"server a 1\r", 101),
+    (b"server a 1\r\r\n", 101),
+    (b"serve a 1\n", 102),
+    (b"server a\n", 102),
+    (b"server a 1 1\n", 102),
+    (b"server c\n", 102),
+    (b"put a t r\n", 102),
+    (b"--\n", 102),
+    (b"roll a 1\n", 102),
+    (b"server c 1\n", 103),
+    (b"server A 1\n", 103),
+    (b"server c 0\n", 103),
+    (b"server a 0\n", 104),
+    (b"server a 64\nserver a 65\n", 204),
+    (b"server a 01\n", 104),
+    (b"server a +1\n", 104),
+    (b"server a 99999999999999999999999999\n", 104),
+    (b"openbegin a 4096 64\nopenbegin a 4097 64\n", 204),
+    (b"deliver 4294967295\ndeliver 4294967296\n", 204),
+    (b"send a 4 1 1000\nsend a 4 1\nsend a 4 1 1001\n", 304),
+    (b"send a 5 1\n", 104),
+    (b"show a T\n", 105),
+    (b"show a aaaaaaaaaaaaaaaa\nshow a aaaaaaaaaaaaaaaaa\n", 205),
+    (b"put a t R f:q@1=v\n", 105),
+    (b"put a t r. f:q@1=v\nput a t. r f:q@1=v\n", 205),
+    (b"table a T f/2\n", 105),
+    (b"table a t f/1,g/0\ntable a t f/2\n", 206),
+    (b"table a t f/1,f/0\n", 106),
+    (b"table a t f/1,\n", 106),
+    (b"table a t ,f/1\n", 106),
+    (b"table a t f/1,,g/0\n", 106),
+    (
+        b"table a t a/0,b/0,c/0,d/0,e/0,f/0,g/0,h/0,i/0,j/0,k/0,l/0,m/0,n/0,o/0,p/0,q/0\n",
+        106,
+    ),
+    (b"peer a 1 plain t,u\npeer a 1 plain t,t\n", 206),
+    (b"peer a 1 plain T\n", 106),
+    (b"peer a 1 Plain t,\n", 107),
+    (b"peer a 9 Plain t,\n", 104),
+    (b"put a t r f:q@10\n", 106),
+    (
+        b"put a t r f:q@18446744073709551615=v\nput a t r f:q@18446744073709551616=v\n",
+        206,
+    ),
+    (b"put a t r f:q@01=v\n", 106),
+    (b"put a t r f:q@1=\nput a t r f:q@1=v-\n", 206),
+    (b"put a t r f:q@1!\nput a t r f:q@1!v\n", 206),
+    (b"put a t r f:q@1=v!\n", 106),
+    (b"put a t r F:q@1=v\n", 106),
+    (b"put a t r f:@1=v\n", 106),
+    (
+        b"put a t r f:q@1=v f:p@1=v\nput a t r f:q@1=v f:q@2!\n",
+        206,
+    ),
+    (b"put a t r f:q@1=16384*x\nput a t r f:q@1=16385*x\n", 206),
+    (b"put a t r f:q@1=0*x\nput a t r f:q@1=3*-\n", 206),
+    (b"put a t r f:q@1=3*xx\n", 106),
+    (b"put a t r f:q@1=03*x\n", 106),
+    (b"put a t R f:q@1\n", 105),
+    (b"put a T R f:q@1\n", 105),
+    (b"put c T R f:q@1\n", 103),
+    (b"put c T R f:q@1\x1f\n", 101),
+];
+
+#[test]
+fn the_first_rule_of_the_first_line_is_told(rt: HostRuntime) -> Result<(), Fail> {
+    let alloc = rt.alloc();
+    for (text, fault) in FAULTS.iter() {
+        assert_eq!(rt; fault_of(alloc, Input::Run, text), *fault);
+    }
+    Ok(())
+}
+
+static LIVE_FAULTS: [(&[u8], u32); 12] = [
+    (b"", 109),
+    (b"server a 1\n", 209),
+    (b"server a 1", 209),
+    (b"server a 1\n--\n", 0),
+    (b"--\nserver a 1\nput a t r f:q@1=v\n", 0),
+    (b"--\n--\n", 209),
+    (b"--\nserver a 1\n--\n--\n", 309),
+    (b"--\n--\nserver c 1\n", 303),
+    (b"-- x\n", 102),
+    (b"show a t\n--\nshow a t\n", 310),
+    (b"--\nshow a T\n", 210),
+    (b"--\nshow a\n", 202),
+];
+
+#[test]
+fn a_live_script_has_one_divider(rt: HostRuntime) -> Result<(), Fail> {
+    let alloc = rt.alloc();
+    for (text, fault) in LIVE_FAULTS.iter() {
+        assert_eq!(rt; fault_of(alloc, Input::Live, text), *fault);
+    }
+    Ok(())
+}
+
+// The rule that a command's words break, whether or not the program performs it; 0 where it is read.
+fn rule_of(alloc: Global, line: &[u8]) -> u16 {
+    let Some((word, rest)) = first_word(line) else {
+        return 20;
+    };
+    let Some(head) = head_of(word) else {
+        return 2;
+    };
+    match meaning(alloc, 0, head, rest) {
+        Ok(Ok(_)) => 0,
+        Ok(Err(rule)) => rule.number(),
+        Err(_) => 21,
+    }
+}
+
+static COMMANDS: [&[u8]; 54] = [
+    b"server a 1",
+    b"table a t f/1,g/0",
+    b"openbegin a 1 1",
+    b"openend a 1",
+    b"closebegin a 1",
+    b"closeend a 1",
+    b"put a t r f:q@1=v f:p@2! g:q@3=40*x",
+    b"get b t r.1",
+    b"show a t",
+    b"sync a 1",
+    b"roll a 1",
+    b"crash a 1",
+    b"seal a 1",
+    b"recover a 1",
+    b"split a 1 m",
+    b"merge a 1 2",
+    b"flush a 1",
+    b"compact a 1",
+    b"sweep a 1",
+    b"sweepremote a 1",
+    b"peer a 1 plain t",
+    b"peer a 2 serial t,u",
+    b"peer b 1 sync t",
+    b"enable a 1",
+    b"disable a 1",
+    b"remove a 1",
+    b"send a 1 1",
+    b"send a 1 1 25",
+    b"deliver 1",
+    b"lose 1",
+    b"confirm 1",
+    b"claim a 1 2 1",
+    b"mirror a 1",
+    b"transitbegin a active",
+    b"transitbegin a downgrade",
+    b"transitbegin a standby",
+    b"transitend a",
+    b"makefolder b",
+    b"promotebegin b",
+    b"replay b",
+    b"promoteend b",
+    b"open a 1 1",
+    b"close a 1",
+    b"move a 1 2",
+    b"ship a 1 1",
+    b"syncall a",
+    b"promote b",
+    b"drain",
+    b"queues a",
+    b"regions a",
+    b"status",
+    b"fail a append 3",
+    b"fail b rename 1000000 65536",
+    b"keep a 0",
+];
+
+static BROKEN: [(&[u8], u16); 17] = [
+    (b"makeserial a 1", 2),
+    (b"drain a", 2),
+    (b"close a 1 1", 2),
+    (b"lose", 2),
+    (b"fail a append 0", 4),
+    (b"fail a append 1000001", 4),
+    (b"fail a append 1 65537", 4),
+    (b"fail a write 1", 7),
+    (b"fail a write 0", 7),
+    (b"fail c write 0", 3),
+    (b"keep a 65537", 4),
+    (b"transitbegin a absent", 7),
+    (b"split a 1 M", 5),
+    (b"get a t", 2),
+    (b"merge a 1 0", 4),
+    (b"claim a 1 65 9", 4),
+    (b"queues c", 3),
+];
+
+#[test]
+fn each_command_is_read(rt: HostRuntime) -> Result<(), Fail> {
+    let alloc = rt.alloc();
+    for line in COMMANDS.iter() {
+        assert_eq!(rt; rule_of(alloc, line), 0);
+    }
+    for (line, rule) in BROKEN.iter() {
+        assert_eq!(rt; rule_of(alloc, line), *rule);
+    }
+    Ok(())
+}
+
+// So many puts of 16,384 bytes each, and a last line.
+fn repeated(alloc: Global, many: u32, last: &[u8]) -> Result<u32, Fail> {
+    let mut text = Vec::new(alloc);
+    for _ in 0..many {
+        text.extend_from_slice(b"put a t r f:q@1=16384*x\n")?;
+    }
+    text.extend_from_slice(last)?;
+    Ok(fault_of(alloc, Input::Run, &text))
 }
 
 #[test]
-fn the_first_line_outside_the_grammar_is_told(rt: HostRuntime) -> Result<(), Fail> {
+fn repeated_values_stand_for_so_many_bytes(rt: HostRuntime) -> Result<(), Fail> {
     let alloc = rt.alloc();
-    assert_eq!(rt; fault_of(alloc, b""), 0);
-    assert_eq!(rt; fault_of(alloc, OPENING), 0);
-    assert_eq!(rt; fault_of(alloc, b"server a 1\nserver b 1"), 0);
-    assert_eq!(rt; fault_of(alloc, b"server a 1\n\n"), 2);
-    assert_eq!(rt; fault_of(alloc, b"server b 1\n"), 1);
-    assert_eq!(rt; fault_of(alloc, b"server a 1\r\n"), 1);
     assert_eq!(rt;
-        later_fault_of(alloc, b"sync a 1\nship a 1 1\nshow a t\nshow b t\n")?,
+        repeated(alloc, 1024, b"put a t r f:q@1=0*x\nput a t r f:q@1=v")?,
         0
     );
-    assert_eq!(rt; later_fault_of(alloc, b"sync a 1\nship a 1 2\n")?, 9);
-    assert_eq!(rt; later_fault_of(alloc, LONGEST)?, 0);
-    assert_eq!(rt; later_fault_of(alloc, b"put a t r1 f:q@0=")?, 0);
-    assert_eq!(rt; later_fault_of(alloc, b"put a t r1 f:q@10")?, 8);
-    assert_eq!(rt; later_fault_of(alloc, b"put a t r1 f:q@01=v")?, 8);
+    assert_eq!(rt; repeated(alloc, 1024, b"put a t r f:q@1=1*x")?, 102_508);
+    assert_eq!(rt; repeated(alloc, 1024, b"put a t r f:q@1=1*xx")?, 102_506);
+    Ok(())
+}
+
+const GENERATED: &[u8] =
+    b"server a 1\nserver a 2\nserver b 1\ntable a t f/1\ntable b t f/1\nopen a 1 1\nopen b 1 1\n\
+peer a 1 serial t\nput a t k22 f:q@1=v1\nsync a 1\ndrain\nshow a t\nshow b t\n";
+
+// The length of a generated script, and its bytes as one number to the base 31, below 2 ^ 64.
+fn digest(alloc: Global, start: u64, size: u32) -> Result<(usize, u64), Fail> {
+    let script = generate(alloc, start, size)?;
+    let mut digest = 0u64;
+    for byte in script.as_slice() {
+        digest = digest.wrapping_mul(31).wrapping_add(u64::from(*byte));
+    }
+    Ok((script.len(), digest))
+}
+
+#[test]
+fn the_generator_draws_its_rows(rt: HostRuntime) -> Result<(), Fail> {
+    let alloc = rt.alloc();
+    assert_eq!(rt; next(1), 7_806_831_264_735_756_412);
+    assert_eq!(rt; drawn(64, next(1)), 22);
+    assert!(rt; generate(alloc, 1, 1)?.as_slice() == GENERATED);
     assert_eq!(rt;
-        later_fault_of(alloc, b"put a t r1 f:q@18446744073709551616=v")?,
-        8
+        digest(alloc, 1, 1000)?,
+        (34717, 13_562_033_947_440_226_292)
     );
-    assert_eq!(rt; later_fault_of(alloc, b"put a t r1 f:q@1=v-")?, 8);
-    assert_eq!(rt; later_fault_of(alloc, b"put a t R f:q@1=v")?, 8);
-    assert_eq!(rt; later_fault_of(alloc, b"# put")?, 8);
     Ok(())
 }
 
@@ -76,7 +299,9 @@ fn sent() -> Reply {
     }
 }
 
-fn ship() -> Option<Command> {
+fn ship() -> Option<Command>
+    ensures { IfSome result (λ ship. asks_state ship ≡ false) }
+{
     Some(Command::Ship {
         cluster: Cluster::A,
         peer: PeerId::new(1)?,

@@ -1,8 +1,11 @@
 use Rattle.std.proofs.Common.{◌∙◌, length, refl, sym, ap, arith, length-append}
 use Rattle.script_text.specs.Expansion.{next_event}
 use Rattle.script_runner.proofs.Performing.{SoFar-push, SoFar-end}
-use Rattle.script_runner.proofs.Serving.{event-taken}
+use Rattle.script_runner.proofs.Serving.{event-taken, served-asks}
 use Rattle.script_runner.proofs.perform.perform.Goals as goal
+
+pub next_event-requires : goal.next_event-requires
+next_event-requires c = served-asks c.args.command.now c.requires.served
 
 pub step-requires-clause-built : goal.step-requires-clause-built
 step-requires-clause-built c =
