@@ -96,6 +96,100 @@ fn replies_are_printed(rt: HostRuntime) -> Result<(), Fail> {
     Ok(())
 }
 
+fn is_printed(alloc: Global, reply: Reply, text: &str) -> Result<bool, Fail> {
+    let mut out = Vec::new(alloc);
+    print_record(3, &record(Event::Deliver { flight: 7 }, reply), &mut out)?;
+    Ok(out.as_slice() == text.as_bytes())
+}
+
+#[test]
+fn short_replies_are_printed(rt: HostRuntime) -> Result<(), Fail> {
+    let alloc = rt.alloc();
+    let region = RegionId::new(1).ok_or("no region")?;
+    let high = RegionId::new(2).ok_or("no region")?;
+    let server = ServerId::new(1).ok_or("no server")?;
+    let none = Items::new(alloc);
+    let acks = tickets(alloc, &[1])?;
+    let cases = [
+        (Reply::Made { region }, "3 deliver 7 -> ok region=1\n"),
+        (Reply::Begun { barrier: 4 }, "3 deliver 7 -> ok barrier=4\n"),
+        (
+            Reply::Marked { seq: 5, acks },
+            "3 deliver 7 -> ok seq=5 acks=1\n",
+        ),
+        (
+            Reply::Sealed {
+                commits: 6,
+                dropped: 7,
+            },
+            "3 deliver 7 -> ok commits=6 dropped=7\n",
+        ),
+        (
+            Reply::Split { low: region, high },
+            "3 deliver 7 -> ok low=1 high=2\n",
+        ),
+        (Reply::Swept { log: 8 }, "3 deliver 7 -> ok log=8\n"),
+        (
+            Reply::Sent {
+                flight: 9,
+                entries: 10,
+                forms: 11,
+            },
+            "3 deliver 7 -> ok flight=9 entries=10 forms=11\n",
+        ),
+        (
+            Reply::Recorded { entries: 12 },
+            "3 deliver 7 -> ok recorded=12\n",
+        ),
+        (
+            Reply::Replayed {
+                server,
+                log: 13,
+                entries: 14,
+            },
+            "3 deliver 7 -> ok server=1 log=13 entries=14\n",
+        ),
+        (Reply::Mirrored { acks: none }, "3 deliver 7 -> ok acks=-\n"),
+    ];
+    for (reply, text) in cases {
+        assert!(rt; is_printed(alloc, reply, text)?);
+    }
+    Ok(())
+}
+
+#[test]
+fn replies_with_tickets_are_printed(rt: HostRuntime) -> Result<(), Fail> {
+    let alloc = rt.alloc();
+    let synced = Reply::Synced {
+        commits: 1,
+        acks: tickets(alloc, &[2, 3])?,
+    };
+    assert!(rt; is_printed(alloc, synced, "3 deliver 7 -> ok commits=1 acks=2,3\n")?);
+    let rolled = Reply::Rolled {
+        log: 2,
+        commits: 0,
+        dropped: 1,
+        doubtful: tickets(alloc, &[4])?,
+    };
+    assert!(rt;
+        is_printed(
+            alloc,
+            rolled,
+            "3 deliver 7 -> ok log=2 commits=0 dropped=1 doubtful=4\n"
+        )?
+    );
+    let crashed = Reply::Crashed {
+        doubtful: tickets(alloc, &[])?,
+    };
+    assert!(rt; is_printed(alloc, crashed, "3 deliver 7 -> ok doubtful=-\n")?);
+    let all = Reply::All {
+        arrived: 3,
+        acks: tickets(alloc, &[5])?,
+    };
+    assert!(rt; is_printed(alloc, all, "3 deliver 7 -> all arrived=3 acks=5\n")?);
+    Ok(())
+}
+
 #[test]
 fn journals_are_printed(rt: HostRuntime) -> Result<(), Fail> {
     let alloc = rt.alloc();
