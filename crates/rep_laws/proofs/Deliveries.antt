@@ -24,7 +24,8 @@ use Rattle.rep_model.specs.Peers.{is_standby}
 use Rattle.rep_model.specs.Places.{Seat, seat, lacks_room, located_number, capped, used}
 use Rattle.rep_model.specs.Tickets.{acks}
 use Rattle.rep_model.specs.LogEvents.{synced_with, emptied, broken_by}
-use Rattle.rep_model.specs.QueueEvents.{Delivery, arrival, stopped, Failing, failing, delivered, with_delivered, delivery_of, deliver_row}
+use Rattle.rep_model.specs.QueueEvents.{Delivery, arrival, stopped, failing, delivered, with_delivered, delivery_of, deliver_row}
+use Rattle.rep_model.specs.declared.faults.Failing.{Failing}
 use Rattle.rep_model.specs.Row.{Row}
 use Rattle.rep_model.specs.declared.machine.Machine.{Machine}
 use Rattle.rep_model.specs.declared.machine.Side.{Side}

@@ -16,7 +16,8 @@ use Rattle.rep_model.specs.Copies.{is_copy, unoffered, with_copy}
 use Rattle.rep_model.specs.Tickets.{tell_waiting}
 use Rattle.rep_model.specs.LogEvents.{live_refusals, log_of}
 use Rattle.rep_model.specs.PeerEvents.{current_copy, is_standing, mirror_row}
-use Rattle.rep_model.specs.Row.{Site, site, fault_among}
+use Rattle.rep_model.specs.Row.{site, fault_among}
+use Rattle.rep_model.specs.declared.faults.Site.{Site}
 use Rattle.rep_model.specs.declared.machine.Machine.{Machine}
 use Rattle.rep_model.specs.declared.machine.Side.{Side}
 use Rattle.rep_model.specs.declared.machine.Commit.{Commit}

@@ -1,5 +1,5 @@
 -- Which moves the events of tables and regions make: table, openbegin, openend, closebegin, closeend, recover, flush, compact, split, merge, sweep.
-use Rattle.std.proofs.Common.{ℕ, ◌+◌, ◌≡◌, ◌||◌, inl, inr, Bool, true, not, List, [], ◌∷◌, ◌++◌, find, Option, Some, None, is_some, is_none, refl, sym, ◌∙◌, subst}
+use Rattle.std.proofs.Common.{ℕ, ◌+◌, ◌≡◌, ◌||◌, inl, inr, Bool, true, false, if◌then◌else◌, not, List, [], ◌∷◌, ◌++◌, find, Option, Some, None, is_some, is_none, refl, sym, ◌∙◌, subst}
 use Rattle.std.specs.List.{AllByRecursion}
 use Rattle.std.proofs.lemmas.Bool.{and_parts, cond-true}
 use Rattle.std.proofs.lemmas.Option.{same_Some}
@@ -10,7 +10,6 @@ use Rattle.rep_types.specs.declared.entry.EntryKind.{EntryKind}
 use Rattle.rep_types.specs.declared.entry.EntryKind.TheVariants as kind
 use Rattle.rep_types.specs.declared.state.PlaceOf.{PlaceOf}
 use Rattle.rep_types.specs.declared.state.PlaceOf.TheVariants as place
-use Rattle.rep_types.specs.declared.state.Call.{Call}
 use Rattle.rep_types.specs.declared.state.Call.TheVariants as call
 use Rattle.rep_types.specs.declared.refusal.Refusal.{Refusal}
 use Rattle.rep_types.specs.declared.refusal.Refusal.TheVariants as refusal
@@ -23,7 +22,7 @@ use Rattle.rep_model.specs.Places.{is_off, opens_at, on_at, closes_at, lost_at, 
 use Rattle.rep_model.specs.Needs.{log_needer}
 use Rattle.rep_model.specs.LogEvents.{own_pending, broken_by, emptied, synced_with}
 use Rattle.rep_model.specs.RegionEvents.{hosted, too_many, table_row, place_of, moved, barrier, opened, open_begin_row, Marking, marking, marker_refusals, marked_at, open_end_row, close_begin_row, close_end_row, flushed, recover_row, flush_row, compact_row, splits, split_row, merge_row, has_no_log, sweep_row}
-use Rattle.rep_model.specs.Row.{site, run_sites, fault_among}
+use Rattle.rep_model.specs.Row.{site, run_sites, fault_among, is_put}
 use Rattle.rep_model.specs.declared.machine.Machine.{Machine}
 use Rattle.rep_model.specs.declared.machine.Table.{Table}
 use Rattle.rep_model.specs.declared.machine.Hosted.{Hosted}
@@ -87,25 +86,11 @@ marked_there at c r m x e =
     let same : record { hosted = h.0; server = v.0 } ≡ x = same_Some _ x v.2 in
     subst (Marked c m) same (record { hosted = region_in c r m h.0 h.1; server = server_in c s.0 m v.0 v.1 })
 
-abbrev marked : Cluster → Marking → EntryKind → Machine → Machine
-marked c x k m = synced_with c x.server (own_pending c x.hosted.region k None ∷ []) m
-
--- what a failed call leaves of a marker
-abbrev failed : Cluster → Marking → EntryKind → Call → Machine → Machine
-failed c x k call.Put m = marked c x k m
-failed c x k _ m = broken_by c x.server (own_pending c x.hosted.region k None) m
-
-failed_moves : {may : Cluster → Bool} (y : Call) (c : Cluster) → is_paired c ≡ true → (x : Marking) (k : EntryKind) (m : Machine) → Marked c m x → Moves may m (failed c x k y m)
-failed_moves call.Put c pair x k m t = synced_moves c pair x.server _ m t.server (own_whence c m x.hosted.region k (x.hosted, t.hosted, refl), tt)
-failed_moves call.Create c pair x k m t = broken_moves c pair x.server _ m t.server (own_whence c m x.hosted.region k (x.hosted, t.hosted, refl))
-failed_moves call.Append c pair x k m t = broken_moves c pair x.server _ m t.server (own_whence c m x.hosted.region k (x.hosted, t.hosted, refl))
-failed_moves call.Sync c pair x k m t = broken_moves c pair x.server _ m t.server (own_whence c m x.hosted.region k (x.hosted, t.hosted, refl))
-failed_moves call.Seal c pair x k m t = broken_moves c pair x.server _ m t.server (own_whence c m x.hosted.region k (x.hosted, t.hosted, refl))
-failed_moves call.Read c pair x k m t = broken_moves c pair x.server _ m t.server (own_whence c m x.hosted.region k (x.hosted, t.hosted, refl))
-failed_moves call.Make c pair x k m t = broken_moves c pair x.server _ m t.server (own_whence c m x.hosted.region k (x.hosted, t.hosted, refl))
-failed_moves call.Rename c pair x k m t = broken_moves c pair x.server _ m t.server (own_whence c m x.hosted.region k (x.hosted, t.hosted, refl))
-failed_moves call.Remove c pair x k m t = broken_moves c pair x.server _ m t.server (own_whence c m x.hosted.region k (x.hosted, t.hosted, refl))
-failed_moves call.List c pair x k m t = broken_moves c pair x.server _ m t.server (own_whence c m x.hosted.region k (x.hosted, t.hosted, refl))
+-- what a failed call leaves of a marker: it is committed, or pending in a broken log
+failed_moves : {may : Cluster → Bool} (committed : Bool) (c : Cluster) → is_paired c ≡ true → (x : Marking) (k : EntryKind) (m : Machine) → Marked c m x → Moves may m
+    (if committed then synced_with c x.server (own_pending c x.hosted.region k None ∷ []) m else broken_by c x.server (own_pending c x.hosted.region k None) m)
+failed_moves true c pair x k m t = synced_moves c pair x.server _ m t.server (own_whence c m x.hosted.region k (x.hosted, t.hosted, refl), tt)
+failed_moves false c pair x k m t = broken_moves c pair x.server _ m t.server (own_whence c m x.hosted.region k (x.hosted, t.hosted, refl))
 
 marked_moves : {may : Cluster → Bool} (c : Cluster) → is_paired c ≡ true → (x : Marking) (k : EntryKind) (to : PlaceOf) (m : Machine) → Marked c m x → Moves may m (marked_at c x k to m)
 marked_moves c pair x k to m t = one (Settles c pair x.server.number x.server.log _ _ _ (numbers_replaced (emptied x.server) (of c m).servers)
@@ -117,7 +102,7 @@ pub open_end_does : {may : Cluster → Bool} (c : Cluster) → is_paired c ≡ t
 unfolding open_end_row
 open_end_does c pair r said m = first_does (marker_refusals opens_at c r m) (λ _.
     fault_does (fault_among (site c call.Append ∷ site c call.Sync ∷ []) said) said
-    (λ f. given_moves (marking opens_at c r m) m _ (λ x e. failed_moves f.call c pair x kind.Opened m (marked_there opens_at c r m x e)))
+    (λ f. given_moves (marking opens_at c r m) m _ (λ x e. failed_moves (is_put f.call) c pair x kind.Opened m (marked_there opens_at c r m x e)))
     (given_does (marking opens_at c r m) still_does (λ x e. record { moves = marked_moves c pair x kind.Opened (place.On x.server.number) m (marked_there opens_at c r m x e) })))
 
 pub close_begin_does : {may : Cluster → Bool} (c : Cluster) → is_paired c ≡ true → (r : ℕ) (said : Reply) (m : Machine) → Does may m (close_begin_row c r said m)
@@ -129,7 +114,7 @@ pub close_end_does : {may : Cluster → Bool} (c : Cluster) → is_paired c ≡ 
 unfolding close_end_row
 close_end_does c pair r said m = first_does (marker_refusals closes_at c r m) (λ _.
     fault_does (fault_among (site c call.Append ∷ site c call.Sync ∷ site c call.Put ∷ []) said) said
-    (λ f. given_moves (marking closes_at c r m) m _ (λ x e. failed_moves f.call c pair x kind.Closed m (marked_there closes_at c r m x e)))
+    (λ f. given_moves (marking closes_at c r m) m _ (λ x e. failed_moves (is_put f.call) c pair x kind.Closed m (marked_there closes_at c r m x e)))
     (given_does (marking closes_at c r m) still_does (λ x e. record { moves = marked_moves c pair x kind.Closed place.Off m (marked_there closes_at c r m x e) })))
 
 -- recover, flush, compact

@@ -31,7 +31,8 @@ use Rattle.rep_model.specs.declared.machine.RemoteCopy.{RemoteCopy}
 use Rattle.rep_model.specs.Words.{is_worded}
 use Rattle.rep_model.specs.Keyed.{if_some}
 use Rattle.rep_model.specs.State.{server_of}
-use Rattle.rep_model.specs.Row.{Row, Site, first, unless, or_fault, fault_among, simple, site}
+use Rattle.rep_model.specs.Row.{Row, first, unless, or_fault, fault_among, simple, site}
+use Rattle.rep_model.specs.declared.faults.Site.{Site}
 use Rattle.rep_model.specs.Rows.{row}
 use Rattle.rep_model.specs.Runs.{Counts, after, LegalFrom, counts_of}
 use Rattle.rep_model.specs.LogEvents.{live_refusals, log_of}

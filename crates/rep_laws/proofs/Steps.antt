@@ -14,7 +14,8 @@ use Rattle.rep_model.specs.Words.{is_paired}
 use Rattle.rep_model.specs.Copies.{make_copy}
 use Rattle.rep_model.specs.Tickets.{tell_number, tell_waiting, unless_told, doubt_pending}
 use Rattle.rep_model.specs.LogEvents.{emptied, synced_with, own_pending, broken_by}
-use Rattle.rep_model.specs.Row.{Row, Site, first, unless, or_fault, fault_among, simple}
+use Rattle.rep_model.specs.Row.{Row, first, unless, or_fault, fault_among, simple}
+use Rattle.rep_model.specs.declared.faults.Site.{Site}
 use Rattle.rep_model.specs.declared.machine.Machine.{Machine}
 use Rattle.rep_model.specs.declared.machine.Pending.{Pending}
 use Rattle.rep_model.specs.declared.machine.Server.{Server}

@@ -21,6 +21,21 @@ ghost use Rattle.worked_runs.specs.FailedAppendBreaksTheLog.{failed_append_break
 ghost use Rattle.worked_runs.specs.PeerIsDisabledAndRemoved.{peer_is_disabled_and_removed};
 ghost use Rattle.worked_runs.specs.RefusalsOfRegions.{refusals_of_regions};
 ghost use Rattle.worked_runs.specs.RefusalsOfPeers.{refusals_of_peers};
+ghost use Rattle.worked_runs.specs.EmptyQueueIsNotSent.{empty_queue_is_not_sent};
+ghost use Rattle.worked_runs.specs.LostIdsAtAPlainPeer.{lost_ids_at_a_plain_peer};
+ghost use Rattle.worked_runs.specs.RecoveryAfterAnIdleCrash.{recovery_after_an_idle_crash};
+ghost use Rattle.worked_runs.specs.RecoveredRegionIsNotSplit.{recovered_region_is_not_split};
+ghost use Rattle.worked_runs.specs.OwnedQueueAtASerialPeer.{owned_queue_at_a_serial_peer};
+ghost use Rattle.worked_runs.specs.LateFlightAtAPlainPeer.{late_flight_at_a_plain_peer};
+ghost use Rattle.worked_runs.specs.StandbyShowsTheActivesWrite.{standby_shows_the_actives_write};
+ghost use Rattle.worked_runs.specs.BrokenLogKeepsAnEntry.{broken_log_keeps_an_entry};
+ghost use Rattle.worked_runs.specs.RemovedPeersFlightArrives.{removed_peers_flight_arrives};
+ghost use Rattle.worked_runs.specs.SerialPeerStaysSerial.{serial_peer_stays_serial};
+ghost use Rattle.worked_runs.specs.NoSplitBelowTheLeastKey.{no_split_below_the_least_key};
+ghost use Rattle.worked_runs.specs.ShippedWritesAreNotShippedBack.{shipped_writes_are_not_shipped_back};
+ghost use Rattle.worked_runs.specs.DowngradedClusterTakesNoForms.{downgraded_cluster_takes_no_forms};
+ghost use Rattle.worked_runs.specs.WaitingTicketsEndWithTheChange.{waiting_tickets_end_with_the_change};
+ghost use Rattle.worked_runs.specs.LastArrivalWinsAtOneTimestamp.{last_arrival_wins_at_one_timestamp};
 
 /// Each of these journals is a legal run, by computation on the rows. There is nothing to be done: the contract is the
 /// law.
@@ -47,4 +62,19 @@ pub fn worked_runs_are_legal()
     ensures legal_peer_is_disabled_and_removed { IsLegal peer_is_disabled_and_removed }
     ensures legal_refusals_of_regions { IsLegal refusals_of_regions }
     ensures legal_refusals_of_peers { IsLegal refusals_of_peers }
+    ensures legal_empty_queue_is_not_sent { IsLegal empty_queue_is_not_sent }
+    ensures legal_lost_ids_at_a_plain_peer { IsLegal lost_ids_at_a_plain_peer }
+    ensures legal_recovery_after_an_idle_crash { IsLegal recovery_after_an_idle_crash }
+    ensures legal_recovered_region_is_not_split { IsLegal recovered_region_is_not_split }
+    ensures legal_owned_queue_at_a_serial_peer { IsLegal owned_queue_at_a_serial_peer }
+    ensures legal_late_flight_at_a_plain_peer { IsLegal late_flight_at_a_plain_peer }
+    ensures legal_standby_shows_the_actives_write { IsLegal standby_shows_the_actives_write }
+    ensures legal_broken_log_keeps_an_entry { IsLegal broken_log_keeps_an_entry }
+    ensures legal_removed_peers_flight_arrives { IsLegal removed_peers_flight_arrives }
+    ensures legal_serial_peer_stays_serial { IsLegal serial_peer_stays_serial }
+    ensures legal_no_split_below_the_least_key { IsLegal no_split_below_the_least_key }
+    ensures legal_shipped_writes_are_not_shipped_back { IsLegal shipped_writes_are_not_shipped_back }
+    ensures legal_downgraded_cluster_takes_no_forms { IsLegal downgraded_cluster_takes_no_forms }
+    ensures legal_waiting_tickets_end_with_the_change { IsLegal waiting_tickets_end_with_the_change }
+    ensures legal_last_arrival_wins_at_one_timestamp { IsLegal last_arrival_wins_at_one_timestamp }
 {}

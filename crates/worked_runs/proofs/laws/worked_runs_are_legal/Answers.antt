@@ -20,6 +20,21 @@ use Rattle.worked_runs.proofs.FailedAppendBreaksTheLog as failed_append_breaks_t
 use Rattle.worked_runs.proofs.PeerIsDisabledAndRemoved as peer_is_disabled_and_removed
 use Rattle.worked_runs.proofs.RefusalsOfRegions as refusals_of_regions
 use Rattle.worked_runs.proofs.RefusalsOfPeers as refusals_of_peers
+use Rattle.worked_runs.proofs.EmptyQueueIsNotSent as empty_queue_is_not_sent
+use Rattle.worked_runs.proofs.LostIdsAtAPlainPeer as lost_ids_at_a_plain_peer
+use Rattle.worked_runs.proofs.RecoveryAfterAnIdleCrash as recovery_after_an_idle_crash
+use Rattle.worked_runs.proofs.RecoveredRegionIsNotSplit as recovered_region_is_not_split
+use Rattle.worked_runs.proofs.OwnedQueueAtASerialPeer as owned_queue_at_a_serial_peer
+use Rattle.worked_runs.proofs.LateFlightAtAPlainPeer as late_flight_at_a_plain_peer
+use Rattle.worked_runs.proofs.StandbyShowsTheActivesWrite as standby_shows_the_actives_write
+use Rattle.worked_runs.proofs.BrokenLogKeepsAnEntry as broken_log_keeps_an_entry
+use Rattle.worked_runs.proofs.RemovedPeersFlightArrives as removed_peers_flight_arrives
+use Rattle.worked_runs.proofs.SerialPeerStaysSerial as serial_peer_stays_serial
+use Rattle.worked_runs.proofs.NoSplitBelowTheLeastKey as no_split_below_the_least_key
+use Rattle.worked_runs.proofs.ShippedWritesAreNotShippedBack as shipped_writes_are_not_shipped_back
+use Rattle.worked_runs.proofs.DowngradedClusterTakesNoForms as downgraded_cluster_takes_no_forms
+use Rattle.worked_runs.proofs.WaitingTicketsEndWithTheChange as waiting_tickets_end_with_the_change
+use Rattle.worked_runs.proofs.LastArrivalWinsAtOneTimestamp as last_arrival_wins_at_one_timestamp
 use Rattle.worked_runs.proofs.laws.worked_runs_are_legal.Goals as goal
 
 pub returns-clause-legal_day_of_moves_a_split_and_a_crash : goal.returns-clause-legal_day_of_moves_a_split_and_a_crash
@@ -87,3 +102,48 @@ returns-clause-legal_refusals_of_regions c = refusals_of_regions.it_is_legal
 
 pub returns-clause-legal_refusals_of_peers : goal.returns-clause-legal_refusals_of_peers
 returns-clause-legal_refusals_of_peers c = refusals_of_peers.it_is_legal
+
+pub returns-clause-legal_empty_queue_is_not_sent : goal.returns-clause-legal_empty_queue_is_not_sent
+returns-clause-legal_empty_queue_is_not_sent c = empty_queue_is_not_sent.it_is_legal
+
+pub returns-clause-legal_lost_ids_at_a_plain_peer : goal.returns-clause-legal_lost_ids_at_a_plain_peer
+returns-clause-legal_lost_ids_at_a_plain_peer c = lost_ids_at_a_plain_peer.it_is_legal
+
+pub returns-clause-legal_recovery_after_an_idle_crash : goal.returns-clause-legal_recovery_after_an_idle_crash
+returns-clause-legal_recovery_after_an_idle_crash c = recovery_after_an_idle_crash.it_is_legal
+
+pub returns-clause-legal_recovered_region_is_not_split : goal.returns-clause-legal_recovered_region_is_not_split
+returns-clause-legal_recovered_region_is_not_split c = recovered_region_is_not_split.it_is_legal
+
+pub returns-clause-legal_owned_queue_at_a_serial_peer : goal.returns-clause-legal_owned_queue_at_a_serial_peer
+returns-clause-legal_owned_queue_at_a_serial_peer c = owned_queue_at_a_serial_peer.it_is_legal
+
+pub returns-clause-legal_late_flight_at_a_plain_peer : goal.returns-clause-legal_late_flight_at_a_plain_peer
+returns-clause-legal_late_flight_at_a_plain_peer c = late_flight_at_a_plain_peer.it_is_legal
+
+pub returns-clause-legal_standby_shows_the_actives_write : goal.returns-clause-legal_standby_shows_the_actives_write
+returns-clause-legal_standby_shows_the_actives_write c = standby_shows_the_actives_write.it_is_legal
+
+pub returns-clause-legal_broken_log_keeps_an_entry : goal.returns-clause-legal_broken_log_keeps_an_entry
+returns-clause-legal_broken_log_keeps_an_entry c = broken_log_keeps_an_entry.it_is_legal
+
+pub returns-clause-legal_removed_peers_flight_arrives : goal.returns-clause-legal_removed_peers_flight_arrives
+returns-clause-legal_removed_peers_flight_arrives c = removed_peers_flight_arrives.it_is_legal
+
+pub returns-clause-legal_serial_peer_stays_serial : goal.returns-clause-legal_serial_peer_stays_serial
+returns-clause-legal_serial_peer_stays_serial c = serial_peer_stays_serial.it_is_legal
+
+pub returns-clause-legal_no_split_below_the_least_key : goal.returns-clause-legal_no_split_below_the_least_key
+returns-clause-legal_no_split_below_the_least_key c = no_split_below_the_least_key.it_is_legal
+
+pub returns-clause-legal_shipped_writes_are_not_shipped_back : goal.returns-clause-legal_shipped_writes_are_not_shipped_back
+returns-clause-legal_shipped_writes_are_not_shipped_back c = shipped_writes_are_not_shipped_back.it_is_legal
+
+pub returns-clause-legal_downgraded_cluster_takes_no_forms : goal.returns-clause-legal_downgraded_cluster_takes_no_forms
+returns-clause-legal_downgraded_cluster_takes_no_forms c = downgraded_cluster_takes_no_forms.it_is_legal
+
+pub returns-clause-legal_waiting_tickets_end_with_the_change : goal.returns-clause-legal_waiting_tickets_end_with_the_change
+returns-clause-legal_waiting_tickets_end_with_the_change c = waiting_tickets_end_with_the_change.it_is_legal
+
+pub returns-clause-legal_last_arrival_wins_at_one_timestamp : goal.returns-clause-legal_last_arrival_wins_at_one_timestamp
+returns-clause-legal_last_arrival_wins_at_one_timestamp c = last_arrival_wins_at_one_timestamp.it_is_legal
