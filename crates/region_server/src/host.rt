@@ -1,4 +1,4 @@
-ghost use Rattle.std.specs.Prelude.{◌≡◌, [], IfOk};
+ghost use Rattle.std.specs.Prelude.{◌≡◌, [], map, IfOk};
 
 use crate::lists::{pend, reserve, take_all, wait};
 use rep_types::{Entries, Entry, Memory, ServerId, Tickets};
@@ -21,8 +21,7 @@ pub struct Kept {
     pub dropped: u32,
 }
 
-/// A server's current log, its pending entries and their tickets, in order. One that is made, or given a new log, has
-/// nothing pending.
+/// A server's current log, its pending entries and the tickets of puts among them, in order.
 #[derive(Drop)]
 pub struct Host {
     alloc: Global,
@@ -44,14 +43,14 @@ impl Model for Host {
 }
 
 impl Host {
-    ghost use Rattle.wal_roll.specs.Log.{wal, log_name, Log};
+    ghost use Rattle.wal_roll.specs.Log.{wal, log_name, frame_size, Log};
     ghost use Rattle.wal_roll.specs.Steps.{OnlyFile};
     ghost use Rattle.wal_roll.specs.Blamed.{Blamed};
     ghost use Rattle.wal_entry.specs.Framed.{IsFramed};
     ghost use Rattle.region_server.specs.Host.{IsHost, Stands};
     ghost use Rattle.region_server.specs.Calls.{Accepts, Commits, Seals};
 
-    /// A host of the server with this log of it, of which nothing is pending.
+    /// A host of the server. The log is the server's, and nothing is pending in it.
     pub fn new(alloc: Global, server: ServerId, log: LogWriter) -> Result<Host, Memory>
         requires own { log.server ≡ server }
         requires fresh { log.lengths ≡ [] }
@@ -73,12 +72,13 @@ impl Host {
     }
 
     pub fn log(&self) -> &LogWriter
-        ensures { result.now ≡ self.now.log }
+        ensures log { result.now ≡ self.now.log }
+        ensures pending { result.now.lengths ≡ map frame_size self.now.pending }
     {
         &self.log
     }
 
-    /// Puts the server's next log in the place of one that is sealed. The tickets stay.
+    /// Puts the server's next log in the place of one that has nothing pending, as a sealed one. The tickets stay.
     pub fn set_log(&mut self, log: LogWriter)
         requires own { log.server ≡ self.old.log.server }
         requires none { self.old.pending ≡ [] }
