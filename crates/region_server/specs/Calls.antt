@@ -1,5 +1,5 @@
 -- What each call of a host does to its log and its lists.
-use Rattle.std.specs.Prelude.{ℕ, ◌+◌, ◌<◌, ◌≤◌, ◌≡◌, true, false, List, [], ◌∷◌, length, take, Option, Result, Ok, Err}
+use Rattle.std.specs.Prelude.{ℕ, ◌+◌, ◌<◌, ◌≤◌, ◌≡◌, true, false, [], ◌∷◌, length, take, Option, Result, Ok, Err}
 use Rattle.rep_types.specs.declared.state.Call.TheVariants as call
 use Rattle.rep_types.specs.declared.entry.Entry.{Entry}
 use Rattle.rep_vault.specs.Contents.{Contents}

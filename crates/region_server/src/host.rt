@@ -1,4 +1,4 @@
-ghost use Rattle.std.specs.Prelude.{◌≡◌, [], map, IfOk};
+ghost use Rattle.std.specs.Prelude.{◌≡◌, [], map};
 
 use crate::lists::{pend, reserve, take_all, wait};
 use rep_types::{Entries, Entry, Memory, ServerId, Tickets};
@@ -50,11 +50,11 @@ impl Host {
     ghost use Rattle.region_server.specs.Host.{IsHost, Stands};
     ghost use Rattle.region_server.specs.Calls.{Accepts, Commits, Seals};
 
-    /// A host of the server. The log is the server's, and nothing is pending in it.
+    /// A host of the server. The log is the server's, and nothing is pending in it. Nothing is allocated yet.
     pub fn new(alloc: Global, server: ServerId, log: LogWriter) -> Result<Host, Memory>
         requires own { log.server ≡ server }
         requires fresh { log.lengths ≡ [] }
-        ensures { IfOk result (λ host. host ≡ record { log = log; pending = []; tickets = [] }) }
+        ensures { result ≡ Ok (record { log = log; pending = []; tickets = [] }) }
     {
         Ok(Host {
             alloc,

@@ -1,4 +1,4 @@
-ghost use Rattle.std.specs.Prelude.{◌≡◌, IfOk};
+ghost use Rattle.std.specs.Prelude.{◌≡◌, [], IfOk, IsTrue};
 ghost use Rattle.rep_vault.specs.Contents.{new_contents};
 ghost use Rattle.rep_vault.specs.Memory.{contents_of};
 ghost use Rattle.wal_entry.specs.Framed.{IsFramed};
@@ -67,11 +67,22 @@ fn commits(host: &mut Host, vault: &mut MemVault, count: usize, tickets: &[u32])
 // Whether a seal keeps and drops so many entries.
 fn seals(host: &mut Host, vault: &mut MemVault, count: usize, dropped: u32) -> bool
     requires { Stands (contents_of vault.old) host.old }
+    ensures { IsTrue result → host.new.pending ≡ [] }
 {
     match host.seal(vault) {
         Ok(kept) => kept.entries.len() == count && kept.dropped == dropped,
         Err(_) => false,
     }
+}
+
+// Whether the host goes on with log 8 of its server, in this store.
+fn goes_on(alloc: Global, host: &mut Host, vault: &mut MemVault) -> Result<bool, Fail>
+    requires fresh { contents_of vault.old ≡ new_contents }
+    requires none { host.old.pending ≡ [] }
+{
+    let log = LogWriter::create(alloc, vault, host.server(), 8)?;
+    host.set_log(log);
+    Ok(host.log().number() == 8)
 }
 
 fn is_only(tickets: &Tickets, ticket: u32) -> bool {
@@ -94,5 +105,16 @@ fn a_seal_keeps_what_was_pending(rt: HostRuntime) -> Result<(), Fail> {
     assert!(rt; !commits(&mut host, &mut vault, 1, &[3]));
     assert!(rt; seals(&mut host, &mut vault, 1, 1));
     assert!(rt; is_only(&host.give_up(), 3));
+    Ok(())
+}
+
+#[test]
+fn a_sealed_log_is_followed_by_the_next(rt: HostRuntime) -> Result<(), Fail> {
+    let alloc = rt.alloc();
+    let mut vault = MemVault::new(alloc)?;
+    let mut next = MemVault::new(alloc)?;
+    let mut host = start(alloc, &mut vault)?;
+    assert!(rt; seals(&mut host, &mut vault, 0, 0));
+    assert!(rt; goes_on(alloc, &mut host, &mut next)?);
     Ok(())
 }
