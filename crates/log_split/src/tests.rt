@@ -1,5 +1,5 @@
-ghost use Rattle.std.specs.Prelude.{◌≡◌, ◌≢◌, ◌≤◌, ◌^◌, ◌-◌, ◌<◌, IfOk, IfSome, None, true};
-ghost use Rattle.rep_vault.specs.Memory.{contents_of, tally_of};
+ghost use Rattle.std.specs.Prelude.{◌≡◌, ◌≢◌, ◌≤◌, IfOk, None};
+ghost use Rattle.rep_vault.specs.Memory.{contents_of};
 ghost use Rattle.wal_entry.specs.Framed.{IsFramed};
 ghost use Rattle.wal_roll.specs.Log.{wal, log_name, Stands};
 
