@@ -1,5 +1,5 @@
 -- What a reader has given so far, and what is left once it is short or bad.
-use Rattle.std.proofs.Common.{◌≡◌, ◌<◌, ◌+◌, ℕ, List, [], ◌∷◌, ◌++◌, length, drop, Bool, Result, Ok, Err, All, refl, sym, ap, ◌∙◌, append_assoc, length-append, arith}
+use Rattle.std.proofs.Common.{◌≡◌, ◌<◌, ◌+◌, ℕ, List, [], ◌∷◌, ◌++◌, length, drop, Bool, Ok, Err, refl, sym, ap, ◌∙◌, append_assoc, length-append, arith}
 use Rattle.std.specs.List.{flat_map, filter}
 use Rattle.std.proofs.lemmas.List.{append-nil, length-drop}
 use Rattle.std.proofs.lemmas.List.Elements.{All-nil, All-push, filter-append}
@@ -15,7 +15,7 @@ use Rattle.wal_entry.proofs.Verdicts.{length-spelling}
 use Rattle.wal_reader.specs.Calls.{AreFrames}
 use Rattle.wal_reader.specs.Reader.{Reader}
 use Rattle.wal_reader.specs.Reading.{answer, UnlessMemory, Gives}
-use Rattle.wal_reader.specs.declared.error.ReaderError.TheVariants.{BadFrame, Memory}
+use Rattle.wal_reader.specs.declared.error.ReaderError.TheVariants.{BadFrame}
 use Rattle.wal_reader.specs.declared.reader.Next.TheVariants as next
 use Rattle.wal_reader.proofs.Within.{frame_within}
 use Rattle.log_split.specs.Held.{HoldsEntries, IsBadAt}

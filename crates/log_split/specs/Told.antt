@@ -1,5 +1,5 @@
 -- What a refusal tells.
-use Rattle.std.specs.Prelude.{ℕ, ◌≡◌, ◌≤◌, Result, IfErr}
+use Rattle.std.specs.Prelude.{ℕ, ◌≡◌, ◌≤◌, Result, Ok, Err, IfErr}
 use Rattle.rep_types.specs.declared.state.Call.{Call}
 use Rattle.rep_types.specs.declared.state.Call.TheVariants as call
 use Rattle.rep_vault.specs.Tallies.{Tally}
@@ -36,3 +36,10 @@ pub record Tells (old new : Tally) {T : Type 0} (result : Result T SplitError) :
   pub kept : (k : Call) → old.faults k ≤ new.faults k
   pub fault : IfErr result (λ e. IfFault e (ReadFailed old new))
   pub planned : new.planned ≡ old.planned
+
+-- the answer is the one that is due, unless the store failed or memory ran out
+abbrev pub UnlessStopped : {T : Type 0} → Result T SplitError → Result T SplitError → Type 0
+UnlessStopped (Ok x) due = Ok x ≡ due
+UnlessStopped (Err (BadFrame log at rule)) due = Err (BadFrame log at rule) ≡ due
+UnlessStopped (Err (StoreFault kind count)) due = Unit {0}
+UnlessStopped (Err Memory) due = Unit {0}

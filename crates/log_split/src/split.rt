@@ -1,4 +1,4 @@
-ghost use Rattle.std.specs.Prelude.{◌≡◌, ◌≢◌, ◌++◌, ◌∷◌, [], None, Some, List, IfOk, IfErr, OnOk, string_bytes, All};
+ghost use Rattle.std.specs.Prelude.{◌≡◌, ◌≢◌, ◌++◌, ◌∷◌, [], None, Some, Ok, Err, ℕ, List, IfOk, IfErr, OnOk, string_bytes, All};
 ghost use Rattle.std.specs.List.{filter};
 ghost use Rattle.rep_types.specs.declared.entry.Entry.{Entry};
 ghost use Rattle.rep_vault.specs.Contents.{File};
@@ -6,7 +6,7 @@ ghost use Rattle.wal_reader.specs.Reader.{starting, fed};
 ghost use Rattle.wal_roll.specs.Log.{wal, log_name};
 ghost use Rattle.log_split.specs.Held.{is_above, HoldsEntries, IsBadAt};
 ghost use Rattle.log_split.specs.Logs.{LogHolds, LogIsBad, HoldAll, FirstBad};
-ghost use Rattle.log_split.specs.Told.{IfBad, IfFault, Tells};
+ghost use Rattle.log_split.specs.Told.{IfBad, IfFault, Tells, UnlessStopped};
 
 use crate::SplitError;
 use rep_types::{Bytes, Call, Entries, Entry, Memory, RegionId, ServerId};
@@ -18,7 +18,7 @@ use wal_reader::{LogReader, Next};
 const FOLDER: &str = "wal";
 
 #[tactic(auto, unfolding(wal_roll::specs::Log::log_name))]
-fn file_name(alloc: Global, server: ServerId, log: u32) -> Result<String, AllocError>
+pub fn file_name(alloc: Global, server: ServerId, log: u32) -> Result<String, AllocError>
     ensures { IfOk result (λ name. string_bytes name ≡ log_name server log) }
 {
     let server = server.number();
@@ -37,7 +37,7 @@ fn fed_with<V: Vault>(
         × ((V.contents vault.old).files wal (log_name server log) ≡ Some file)
         × (reader ≡ fed file.bytes (starting log 0))) }
     ensures bad { IfErr result (λ e. IfBad e (λ _ _ _. ⊥)) }
-    ensures tells { Tells (V.tally vault.old) (V.tally vault.new) result }
+    ensures fault { Tells (V.tally vault.old) (V.tally vault.new) result }
     ensures kept { V.contents vault.new ≡ V.contents vault.old }
 {
     let name = file_name(alloc, server, log)?;
@@ -100,11 +100,35 @@ fn split_one<V: Vault>(
         × (found.new ≡ found.old ++ filter (is_above region above) here)) }
     ensures bad { IfErr result (λ e. IfBad e (λ number at rule. (number ≡ log)
         × LogIsBad (V.contents vault.old) server log at rule)) }
-    ensures tells { Tells (V.tally vault.old) (V.tally vault.new) result }
+    ensures fault { Tells (V.tally vault.old) (V.tally vault.new) result }
     ensures kept { V.contents vault.new ≡ V.contents vault.old }
 {
     let mut reader = fed_with(alloc, vault, server, log)?;
     take_entries(&mut reader, region, above, found)
+}
+
+// `split_log`, in what its answers say.
+fn split_all<V: Vault>(
+    alloc: Global,
+    vault: &mut V,
+    server: ServerId,
+    logs: &[u32],
+    region: RegionId,
+    above: u64,
+) -> Result<Entries, SplitError>
+    requires { All (λ log. (V.contents vault.old).files wal (log_name server log) ≢ None) logs.now }
+    ensures entries { IfOk result (λ found. (all : List Entry)
+        × HoldAll (V.contents vault.old) server logs.now all
+        × (found ≡ filter (is_above region above) all)) }
+    ensures bad { IfErr result (λ e. IfBad e (FirstBad (V.contents vault.old) server logs.now)) }
+    ensures fault { Tells (V.tally vault.old) (V.tally vault.new) result }
+    ensures kept { V.contents vault.new ≡ V.contents vault.old }
+{
+    let mut found = Entries::new(alloc);
+    for log in logs {
+        split_one(alloc, vault, server, *log, region, above, &mut found)?;
+    }
+    Ok(found)
 }
 
 /// The region's entries above a sequence id in these logs of a server, in order. Each log is read once, and memory is held
@@ -118,16 +142,20 @@ pub fn split_log<V: Vault>(
     above: u64,
 ) -> Result<Entries, SplitError>
     requires stand { All (λ log. (V.contents vault.old).files wal (log_name server log) ≢ None) logs.now }
+    // What is given are those of the entries that all the logs hold.
     ensures entries { IfOk result (λ found. (all : List Entry)
         × HoldAll (V.contents vault.old) server logs.now all
         × (found ≡ filter (is_above region above) all)) }
+    // Where all the logs hold entries, those are given.
+    ensures all { (all : List Entry) → HoldAll (V.contents vault.old) server logs.now all
+        → UnlessStopped result (Ok (filter (is_above region above) all)) }
+    // A bad frame that is told is the first.
     ensures bad { IfErr result (λ e. IfBad e (FirstBad (V.contents vault.old) server logs.now)) }
-    ensures tells { Tells (V.tally vault.old) (V.tally vault.new) result }
+    // Where there is one, it is told.
+    ensures first { (log at rule : ℕ) → FirstBad (V.contents vault.old) server logs.now log at rule
+        → UnlessStopped result (Err (SplitError.BadFrame log at rule)) }
+    ensures fault { Tells (V.tally vault.old) (V.tally vault.new) result }
     ensures kept { V.contents vault.new ≡ V.contents vault.old }
 {
-    let mut found = Entries::new(alloc);
-    for log in logs {
-        split_one(alloc, vault, server, *log, region, above, &mut found)?;
-    }
-    Ok(found)
+    split_all(alloc, vault, server, logs, region, above)
 }

@@ -1,6 +1,6 @@
-use Rattle.std.proofs.Common.{◌≡◌, ◌<◌, ◌-◌, ◌^◌, Some, List, length, ap, subst, ◌∙◌, arith}
+use Rattle.std.proofs.Common.{◌≡◌, ◌<◌, ◌-◌, ◌^◌, Some, length, ap, subst, ◌∙◌, arith}
 use Rattle.rep_vault.specs.Contents.{File}
-use Rattle.wal_reader.specs.Reader.{fed, starting}
+use Rattle.wal_reader.specs.Reader.{fed}
 use Rattle.wal_roll.specs.Log.{wal, log_name}
 use Rattle.log_split.proofs.Splitting.{read_whole}
 use Rattle.log_split.proofs.split.fed_with.Goals as goal

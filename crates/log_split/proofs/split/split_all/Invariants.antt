@@ -4,7 +4,7 @@ use Rattle.rep_types.specs.declared.entry.Entry.{Entry}
 use Rattle.rep_types.specs.declared.state.Call.{Call}
 use Rattle.log_split.specs.Held.{is_above}
 use Rattle.log_split.specs.Logs.{HoldAll}
-use Rattle.log_split.proofs.split.split_log.Given as goal
+use Rattle.log_split.proofs.split.split_all.Given as goal
 
 abbrev pub invariant-loop-log : goal.invariant-loop-log
 invariant-loop-log g l = record {
