@@ -1,5 +1,5 @@
 -- `==` of two refusals, and of what stops two deliveries, decides whether they are the same.
-use Rattle.std.proofs.Common.{rules, ◌≡◌, ℕ, true, Bool, refl, Option}
+use Rattle.std.proofs.Common.{rules, ◌≡◌, true, Bool, refl}
 use Rattle.std.proofs.lemmas.Bool.{false≢true}
 use Rattle.rep_types.specs.declared.refusal.Refusal.{Refusal}
 use Rattle.rep_types.specs.declared.refusal.Refusal.TheVariants as refusal

@@ -1,5 +1,5 @@
 -- `==` of two replies decides whether they are the same.
-use Rattle.std.proofs.Common.{rules, ◌≡◌, ℕ, true, Bool, List, refl, ap, sym, ◌∙◌, subst}
+use Rattle.std.proofs.Common.{rules, ◌≡◌, true, Bool, List, refl, ap, sym, ◌∙◌, subst}
 use Rattle.std.specs.Bool.{Decides}
 use Rattle.std.proofs.lemmas.Bool.{false≢true, and_parts, and_from}
 use Rattle.std.proofs.lemmas.Bool.Decides.{Decides-eqb}
