@@ -4,6 +4,8 @@
 
 mod journal;
 mod next;
+#[cfg(test)]
+mod tests;
 mod told;
 
 pub use journal::{Folded, fold};
