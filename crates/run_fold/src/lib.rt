@@ -4,8 +4,6 @@
 
 mod journal;
 mod next;
-#[cfg(test)]
-mod tests;
 mod told;
 
 pub use journal::{Folded, fold};
