@@ -1,0 +1,6 @@
+//! Stand-in.
+#![tactic(auto)]
+
+mod store;
+
+pub use store::CellStore;

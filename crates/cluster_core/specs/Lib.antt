@@ -1,0 +1,6 @@
+pub mod Does
+pub mod Entries
+pub mod Logs
+pub mod Memory
+pub mod Stands
+pub mod Texts
