@@ -92,7 +92,7 @@ launched c pair x q s n m there found k =
 
 -- marks
 
-length_replaced : {X : Type 0} (q : X → Bool) (new : X) (xs : List X) → length (replace q new xs) ≡ length xs
+pub length_replaced : {X : Type 0} (q : X → Bool) (new : X) (xs : List X) → length (replace q new xs) ≡ length xs
 length_replaced q new [] = refl
 length_replaced q new (x ∷ xs) = cond_both (q x) (new ∷ xs) (x ∷ replace q new xs) (λ w. length w ≡ suc (length xs)) (λ _. refl) (λ _. ap suc (length_replaced q new xs))
 

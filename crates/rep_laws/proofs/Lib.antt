@@ -41,3 +41,11 @@ pub mod Fronts
 pub mod FrontPart
 pub mod FrontMoves
 pub mod Cited
+pub mod Numbering
+pub mod Acts
+pub mod ActForms
+pub mod ActsOfLogs
+pub mod ActsOfRegions
+pub mod ActsOfQueues
+pub mod ActsOfPeers
+pub mod RowActs
