@@ -49,3 +49,5 @@ pub mod ActsOfRegions
 pub mod ActsOfQueues
 pub mod ActsOfPeers
 pub mod RowActs
+pub mod ActSides
+pub mod SeatPart
