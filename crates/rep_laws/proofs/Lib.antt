@@ -51,3 +51,6 @@ pub mod ActsOfPeers
 pub mod RowActs
 pub mod ActSides
 pub mod SeatPart
+pub mod FlightsPart
+pub mod Steady
+pub mod CitedMore
