@@ -52,5 +52,7 @@ pub mod RowActs
 pub mod ActSides
 pub mod SeatPart
 pub mod FlightsPart
+pub mod Slots
+pub mod PromisePart
 pub mod Steady
 pub mod CitedMore

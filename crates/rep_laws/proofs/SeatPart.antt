@@ -220,7 +220,7 @@ turn_at c m n p q (Leaves r k v at found empty) busy t = absurd (busy v (ap (λ 
 turn_at c m n p q Retires busy t = absurd (false≢true t)
 turn_at c m n p q StaysGone busy t = absurd (false≢true t)
 
-nowhere : (x : Pending) (xs : List Pending) → In x xs → xs ≡ [] → ⊥
+pub nowhere : (x : Pending) (xs : List Pending) → In x xs → xs ≡ [] → ⊥
 nowhere x xs i e = subst (In x) e i
 
 turn_placed : (c : Cluster) (m : Machine) (h new : Hosted) → region_of c new.region.number m ≡ Some h → new.region ≡ h.region → Turns c m h.place new.place → SeatIn (of c m) → (v : Server) → In v (of c m).servers → (x : Pending) → In x v.pending
