@@ -1,6 +1,6 @@
 -- Which acts the events of peers, of changes of state and of promotions are, and a mirror.
 use Rattle.std.proofs.Common.{ℕ, ◌+◌, ◌≡◌, ◌==◌, ◌&&◌, ◌||◌, Bool, true, false, not, List, [], ◌∷◌, length, take, map, filter, Some, None, is_some, is_none, if◌then◌else◌, refl, ap, sym, ◌∙◌, subst}
-use Rattle.std.proofs.lemmas.Bool.{cond_both}
+use Rattle.std.proofs.lemmas.Bool.{cond_both, false≢true}
 use Rattle.std.proofs.lemmas.Option.{none-some, same_Some}
 use Rattle.rep_types.specs.declared.ids.Cluster.{Cluster}
 use Rattle.rep_types.specs.declared.ids.Cluster.TheVariants as cluster
@@ -37,7 +37,7 @@ use Rattle.rep_laws.proofs.Flow.{peer_at}
 use Rattle.rep_laws.proofs.SerialPart.{found_number}
 use Rattle.rep_laws.proofs.Sides.{other_paired, tickets_with}
 use Rattle.rep_laws.proofs.Moves.{other_queues, replayed}
-use Rattle.rep_laws.proofs.Steps.{not_some, not_none}
+use Rattle.rep_laws.proofs.Steps.{not_some, not_none, if_some_false}
 use Rattle.rep_laws.proofs.DoesQueues.{given_is}
 use Rattle.rep_laws.proofs.DoesPeers.{peer_there, peer_here, is_nothing}
 use Rattle.rep_laws.proofs.Acts.{Act, Acts, Nothing, act, acts_then, LinkStands, TicketsEnd, PeerJoins, PeerStands, PeerLeaves, PeersRestart}
@@ -63,7 +63,7 @@ peer_stands c p m x e = by_found (peer_at p (of c m).peers) e
     by_found (Some y) q = cond_both (is_removed y.standing) None (Some y) (λ w. w ≡ Some x → is_removed x.standing ≡ false) (λ _ r. absurd (none-some x r)) (λ f r. sym (ap (λ (z : Peer). is_removed z.standing) (same_Some y x r)) ∙ f) q
 
 standing_acts : (c : Cluster) → is_paired c ≡ true → (p : ℕ) (to : Standing) (m : Machine) → is_removed to ≡ false → Acts m (given (peer_of c p m) m (λ x. with_peer c (record x { standing = to }) m))
-standing_acts c pair p to m stays = given_acts (peer_of c p m) m _ (λ x e. act (PeerStands c pair x (record x { standing = to }) (peer_here c p m x e) (stays ∙ sym (peer_stands c p m x e))))
+standing_acts c pair p to m stays = given_acts (peer_of c p m) m _ (λ x e. act (PeerStands c pair x (record x { standing = to }) (peer_here c p m x e) (stays ∙ sym (peer_stands c p m x e)) (λ h. h)))
 
 pub enable_acted : (c : Cluster) → is_paired c ≡ true → (p : ℕ) (said : Reply) (m : Machine) → Acted m (enable_row c p said m)
 unfolding enable_row
@@ -83,23 +83,23 @@ leaves_is cluster.A y p m = refl
 leaves_is cluster.B y p m = refl
 leaves_is cluster.C y p m = refl
 
-remove_acts : (c : Cluster) → is_paired c ≡ true → (p : ℕ) (m : Machine) (x : Peer) → peer_of c p m ≡ Some x
+remove_acts : (c : Cluster) → is_paired c ≡ true → (p : ℕ) (m : Machine) (x : Peer) → peer_of c p m ≡ Some x → is_synchronous x.kind ≡ false
     → Acts m (let n = given (peer_of c p m) m (λ y. with_peer c (record y { standing = standing.Removed }) m) in with c (record (of c n) { queues = other_queues p (of c n).queues }) n)
-remove_acts c pair p m x e =
+remove_acts c pair p m x e plain =
     let y : Peer = record x { standing = standing.Removed } in
     let number : x.number ≡ p = found_number p (of c m).peers x (peer_there c p m x e) in
     subst (λ (n : Machine). Acts m (with c (record (of c n) { queues = other_queues p (of c n).queues }) n)) (sym (given_is (peer_of c p m) m (λ (z : Peer). with_peer c (record z { standing = standing.Removed }) m) x e))
-    (subst (Acts m) (leaves_is c y p m) (subst (λ k. Acts m (with c (record (of c m) { peers = replace (is_peer x.number) y (of c m).peers; queues = other_queues k (of c m).queues }) m)) number (act (PeerLeaves c pair x (peer_here c p m x e)))))
+    (subst (Acts m) (leaves_is c y p m) (subst (λ k. Acts m (with c (record (of c m) { peers = replace (is_peer x.number) y (of c m).peers; queues = other_queues k (of c m).queues }) m)) number (act (PeerLeaves c pair x (peer_here c p m x e) plain))))
 
 pub remove_acted : (c : Cluster) → is_paired c ≡ true → (p : ℕ) (said : Reply) (m : Machine) → Acted m (remove_row c p said m)
 unfolding remove_row
 remove_acted c pair p said m = simple_acted ((is_none (peer_of c p m), refusal.NoPeer) ∷ (of_kind is_synchronous c p m, refusal.IsSync) ∷ []) (site c call.Put ∷ []) said
-    (λ none. let x = not_none (peer_of c p m) none.0 in record { acts = remove_acts c pair p m x.0 x.1 })
+    (λ none. let x = not_none (peer_of c p m) none.0 in record { acts = remove_acts c pair p m x.0 x.1 (if_some_false (peer_of c p m) (λ (y : Peer). is_synchronous y.kind) x.0 x.1 none.1.0) })
 
 pub make_serial_acted : (c : Cluster) → is_paired c ≡ true → (p : ℕ) (said : Reply) (m : Machine) → Acted m (make_serial_row c p said m)
 unfolding make_serial_row
 make_serial_acted c pair p said m = simple_acted ((is_none (peer_of c p m), refusal.NoPeer) ∷ (of_kind is_synchronous c p m, refusal.IsSync) ∷ (of_kind is_serial c p m, refusal.IsSerial) ∷ []) (site c call.Put ∷ []) said
-    (λ _. record { acts = given_acts (peer_of c p m) m _ (λ x e. act (PeerStands c pair x _ (peer_here c p m x e) refl)) })
+    (λ _. record { acts = given_acts (peer_of c p m) m _ (λ x e. act (PeerStands c pair x _ (peer_here c p m x e) refl (λ h. absurd (false≢true h)))) })
 
 -- mirror and sweepremote
 

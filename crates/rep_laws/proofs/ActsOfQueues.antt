@@ -117,7 +117,7 @@ lose_acted k said m pairs =
     (λ _. given_acted (flight_of k m) still_acted (λ f e. record { acts = flown_acts f.cluster (All_found _ (is_flight k) m.flights f e pairs) f.peer f.server None m }))
 
 recorded_acts : (c : Cluster) → is_paired c ≡ true → (p : ℕ) (entries : List Commit) (m : Machine) → Acts m (recorded c p entries m)
-recorded_acts c pair p entries m = given_acts (find (is_peer p) (of c m).peers) m _ (λ x e. act (PeerStands c pair x _ (found_again p (of c m).peers x e) refl))
+recorded_acts c pair p entries m = given_acts (find (is_peer p) (of c m).peers) m _ (λ x e. act (PeerStands c pair x _ (found_again p (of c m).peers x e) refl (λ h. h)))
 
 pub confirm_acted : (k : ℕ) (said : Reply) (m : Machine) → AllPaired m.flights → Acted m (confirm_row k said m)
 unfolding confirm_row

@@ -1,11 +1,14 @@
 -- What else holds of the state after a legal list of records, as other crates may cite it: where regions and entries stand, and what look-ups find.
-use Rattle.std.proofs.Common.{ℕ, suc, ◌+◌, ◌≤◌, ◌≡◌, Bool, true, false, List, [], ◌∷◌, ◌++◌, find, Some, None, slice_get, refl, ap, sym, ◌∙◌, subst, arith}
+use Rattle.std.proofs.Common.{ℕ, suc, ◌+◌, ◌-◌, ◌≤◌, ◌≡◌, ◌==◌, inl, inr, Bool, true, false, List, [], ◌∷◌, ◌++◌, find, Some, None, slice_get, refl, ap, sym, ◌∙◌, subst, arith}
 use Rattle.std.specs.List.{AllByRecursion}
+use Rattle.std.proofs.lemmas.Bool.{cond_both, eqb-false}
+use Rattle.std.proofs.lemmas.Option.{same_Some}
 use Rattle.rep_types.specs.declared.ids.Cluster.{Cluster}
 use Rattle.rep_types.specs.declared.record.Record.{Record}
-use Rattle.rep_model.specs.State.{of, is_server, is_region, is_peer, is_flight, server_of, region_of, flight_of}
+use Rattle.rep_model.specs.State.{of, is_server, is_region, is_peer, is_flight, is_queue, server_of, queue_of}
 use Rattle.rep_model.specs.Words.{is_paired}
 use Rattle.rep_model.specs.Runs.{state_of, IsLegal}
+use Rattle.rep_model.specs.Peers.{is_removed, is_synchronous}
 use Rattle.rep_model.specs.Places.{is_named}
 use Rattle.rep_model.specs.declared.machine.Machine.{Machine}
 use Rattle.rep_model.specs.declared.machine.Commit.{Commit}
@@ -13,8 +16,12 @@ use Rattle.rep_model.specs.declared.machine.Pending.{Pending}
 use Rattle.rep_model.specs.declared.machine.Hosted.{Hosted}
 use Rattle.rep_model.specs.declared.machine.Server.{Server}
 use Rattle.rep_model.specs.declared.machine.Peer.{Peer}
+use Rattle.rep_model.specs.declared.machine.Queue.{Queue}
 use Rattle.rep_model.specs.declared.machine.Flight.{Flight}
-use Rattle.rep_laws.proofs.Lists.{In, in_all, All_weaker}
+use Rattle.rep_model.specs.declared.machine.Ticket.{Ticket}
+use Rattle.rep_model.specs.declared.machine.Told.TheVariants as told
+use Rattle.rep_laws.proofs.Lists.{In, in_all, All_weaker, found_in}
+use Rattle.rep_laws.proofs.Moves.{numbers}
 use Rattle.rep_laws.proofs.DoesMirror.{stands_within}
 use Rattle.rep_laws.proofs.Flow.{Recorded}
 use Rattle.rep_laws.proofs.Inv.{outbound}
@@ -23,8 +30,24 @@ use Rattle.rep_laws.proofs.FrontPart.{front_at}
 use Rattle.rep_laws.proofs.Lawful.{Lawful, lawful_journal}
 use Rattle.rep_laws.proofs.Numbering.{found_key, find_slot, find_below}
 use Rattle.rep_laws.proofs.Acts.{works_at, is_at}
+use Rattle.rep_laws.proofs.ActForms.{server_number}
+use Rattle.rep_laws.proofs.Slots.{told_of}
+use Rattle.rep_laws.proofs.PromisePart.{Promised, AllPromised, Precedes, Rises, promises_at}
+use Rattle.rep_laws.proofs.QueuesPart.{Stays, queued_at, queue_found}
 use Rattle.rep_laws.proofs.SeatPart.{Works, Known, Placed, Rests, AllPlaced, SeatIn, seats_at, server_found, region_found}
 use Rattle.rep_laws.proofs.Steady.{Steady, steady_journal}
+
+-- a server of this number stands
+number_found : (n : ℕ) (vs : List Server) → In n (numbers vs) → (v : Server) × (find (is_server n) vs ≡ Some v)
+number_found n [] i = absurd i
+number_found n (w ∷ vs) i = cond_both (w.number == n) (Some w) (find (is_server n) vs) (λ o. (v : Server) × (o ≡ Some v))
+    (λ _. (w, refl))
+    (λ f. elim i [ inl e ↦ absurd (eqb-false w.number n f (sym e)) | inr r ↦ number_found n vs r ])
+
+-- each entry behind another has a greater ticket
+rises_at : (front : List Pending) (x : Pending) (back : List Pending) → Rises (front ++ x ∷ back) → (y : Pending) → In y back → Precedes x y
+rises_at [] x back r y i = in_all (Precedes x) y back i r.0
+rises_at (z ∷ front) x back r y i = rises_at front x back r.1 y i
 
 module _ (journal : List Record) (legal : IsLegal journal) where
   abbrev now : Machine
@@ -95,6 +118,53 @@ module _ (journal : List Record) (legal : IsLegal journal) where
 
   pub peer_is_found : (c : Cluster) → is_paired c ≡ true → (p : Peer) → In p (of c (state_of journal)).peers → find (is_peer p.number) (of c (state_of journal)).peers ≡ Some p
   peer_is_found c pair p i = found_key (λ (q : Peer). q.number) p (of c now).peers (front_at c pair now laws.fronted).peers_differ i
+
+  -- the tickets of a server's pending entries: pending while it lives, doubtful once it died
+  pub pending_tickets : (c : Cluster) → is_paired c ≡ true → (v : Server) → In v (of c (state_of journal)).servers → (x : Pending) → In x v.pending → (k : ℕ) → x.ticket ≡ Some k
+      → (1 ≤ k) × (slice_get (state_of journal).tickets (k - 1) ≡ Some (record { cluster = c; told = told_of v.live }))
+  pending_tickets c pair v i x j = in_all (Promised c now.tickets v.live) x v.pending j (in_all (AllPromised c now.tickets) v (of c now).servers i (promises_at c pair now kept.promises).promised)
+
+  pub live_tickets_are_pending : (c : Cluster) → is_paired c ≡ true → (v : Server) → In v (of c (state_of journal)).servers → v.live ≡ true → (x : Pending) → In x v.pending → (k : ℕ) → x.ticket ≡ Some k
+      → (1 ≤ k) × (slice_get (state_of journal).tickets (k - 1) ≡ Some (record { cluster = c; told = told.Pending }))
+  live_tickets_are_pending c pair v i live x j k e = let p = pending_tickets c pair v i x j k e in (p.0, p.1 ∙ ap (λ (b : Bool). Some (record { cluster = c; told = told_of b })) live)
+
+  -- they ascend along the list
+  pub tickets_ascend : (c : Cluster) → is_paired c ≡ true → (v : Server) → In v (of c (state_of journal)).servers → (front : List Pending) (x : Pending) (back : List Pending) → v.pending ≡ front ++ x ∷ back → (y : Pending) → In y back
+      → (j k : ℕ) → x.ticket ≡ Some j → y.ticket ≡ Some k → suc j ≤ k
+  tickets_ascend c pair v i front x back split y l = rises_at front x back (subst Rises split (in_all (λ (w : Server). Rises w.pending) v (of c now).servers i (promises_at c pair now kept.promises).rising)) y l
+
+  -- and each is pending at one server
+  pub ticket_is_at_one : (c d : Cluster) → is_paired c ≡ true → is_paired d ≡ true → (s t : ℕ) (v w : Server) → server_of c s (state_of journal) ≡ Some v → server_of d t (state_of journal) ≡ Some w
+      → (x y : Pending) → In x v.pending → In y w.pending → (k : ℕ) → x.ticket ≡ Some k → y.ticket ≡ Some k → (c ≡ d) × (s ≡ t)
+  ticket_is_at_one c d pair other s t v w there found x y i j k e f =
+      let a : In v (of c now).servers = found_in (is_server s) (of c now).servers v there in
+      let b : In w (of d now).servers = found_in (is_server t) (of d now).servers w found in
+      let p = (pending_tickets c pair v a x i k e).1 in
+      let q = (pending_tickets d other w b y j k f).1 in
+      let same : c ≡ d = ap (λ (u : Ticket). u.cluster) (same_Some _ _ (sym p ∙ q)) in
+      let here : In w (of c now).servers = subst (λ (z : Cluster). In w (of z now).servers) (sym same) b in
+      (same, sym (server_number c s now v there) ∙ ((promises_at c pair now kept.promises).single v w a here x y i j k e f ∙ server_number d t now w found))
+
+  -- a queue is found by its peer and its server; its peer stands and isn't removed, and its server stands
+  pub queue_is_found : (c : Cluster) → is_paired c ≡ true → (q : Queue) → In q (of c (state_of journal)).queues → find (is_queue q.peer q.server) (of c (state_of journal)).queues ≡ Some q
+  queue_is_found c pair q i = queue_found q (of c now).queues (front_at c pair now laws.fronted).unique i
+
+  pub queue_peer_stands : (c : Cluster) → is_paired c ≡ true → (q : Queue) → In q (of c (state_of journal)).queues → (p : Peer) × (find (is_peer q.peer) (of c (state_of journal)).peers ≡ Some p) × (is_removed p.standing ≡ false)
+  queue_peer_stands c pair q i = in_all (λ (r : Queue). Stays (of c now).peers r.peer) q (of c now).queues i (queued_at c pair now kept.queued).stays
+
+  pub queue_server_stands : (c : Cluster) → is_paired c ≡ true → (q : Queue) → In q (of c (state_of journal)).queues → (v : Server) × (server_of c q.server (state_of journal) ≡ Some v)
+  queue_server_stands c pair q i = number_found q.server (of c now).servers (in_all (λ (r : Queue). In r.server (numbers (of c now).servers)) q (of c now).queues i (front_at c pair now laws.fronted).served)
+
+  -- each peer that isn't removed has a queue for each server that isn't sealed
+  pub queues_are_whole : (c : Cluster) → is_paired c ≡ true → (p : Peer) → In p (of c (state_of journal)).peers → is_removed p.standing ≡ false → (v : Server) → In v (of c (state_of journal)).servers → v.sealed ≡ false
+      → (q : Queue) × (queue_of c p.number v.number (state_of journal) ≡ Some q)
+  queues_are_whole c pair p i stays v j unsealed =
+      let h = (queued_at c pair now kept.queued).whole p v i j stays unsealed in
+      (h.0, ap (λ n. queue_of c n v.number now) (sym h.2) ∙ (ap (λ n. queue_of c h.0.peer n now) (sym h.3) ∙ queue_is_found c pair h.0 h.1))
+
+  -- synchronous peers aren't removed
+  pub synchronous_stays : (c : Cluster) → is_paired c ≡ true → (p : Peer) → In p (of c (state_of journal)).peers → is_synchronous p.kind ≡ true → is_removed p.standing ≡ false
+  synchronous_stays c pair p i = in_all (λ (q : Peer). is_synchronous q.kind ≡ true → is_removed q.standing ≡ false) p (of c now).peers i (queued_at c pair now kept.queued).synchronous
 
   -- what a peer has recorded are commits
   pub recorded_are_commits : (c : Cluster) → is_paired c ≡ true → (p : Peer) → In p (of c (state_of journal)).peers → (x : Commit) → In x p.recorded → In x (of c (state_of journal)).commits

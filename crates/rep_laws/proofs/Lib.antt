@@ -54,5 +54,6 @@ pub mod SeatPart
 pub mod FlightsPart
 pub mod Slots
 pub mod PromisePart
+pub mod QueuesPart
 pub mod Steady
 pub mod CitedMore

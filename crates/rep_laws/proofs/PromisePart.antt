@@ -305,8 +305,8 @@ act_promises m new (PutPends c pair v x served room ticket) seats k =
     (told_side (other c) (of (other c) m).servers m.tickets _ (λ w i y j n e q. slot_more m.tickets (ticket_of c true ∷ []) (n - 1) (ticket_of (other c) w.live) q) (promises_at (other c) (other_paired c pair) m k)))
 act_promises m new (EntriesCommit c pair v to xs ts commits) seats k = subst Promises (sym (entries_committed c v.number v.log to xs ts m)) (commit_promise c pair m v to xs ts commits seats k)
 act_promises m new (PeerJoins c pair p kind tables none) seats k = promises_side c pair _ m (promises_at c pair m k) k
-act_promises m new (PeerStands c pair x to found same) seats k = promises_side c pair _ m (promises_at c pair m k) k
-act_promises m new (PeerLeaves c pair x found) seats k = promises_side c pair _ m (promises_at c pair m k) k
+act_promises m new (PeerStands c pair x to found same sync) seats k = promises_side c pair _ m (promises_at c pair m k) k
+act_promises m new (PeerLeaves c pair x found plain) seats k = promises_side c pair _ m (promises_at c pair m k) k
 act_promises m new (PeersRestart c pair) seats k = promises_side c pair _ m (promises_at c pair m k) k
 act_promises m new (QueueStands c pair q to found) seats k = promises_side c pair _ m (promises_at c pair m k) k
 act_promises m new (FlightJoins f number) seats k = promises_flights m _ k

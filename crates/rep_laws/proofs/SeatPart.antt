@@ -338,8 +338,8 @@ act_seats m new (PutPends c pair v x served room ticket) k = seats_tickets _ _ (
 act_seats m new (EntriesCommit c pair v to xs ts commits) k =
     subst Seats (sym (entries_committed c v.number v.log to xs ts m)) (seats_tickets _ _ (seats_with c pair _ m (commit_seats c m v to xs ts commits (seats_at c pair m k)) k))
 act_seats m new (PeerJoins c pair p kind tables none) k = seats_with c pair _ m (seats_at c pair m k) k
-act_seats m new (PeerStands c pair x to found same) k = seats_with c pair _ m (seats_at c pair m k) k
-act_seats m new (PeerLeaves c pair x found) k = seats_with c pair _ m (seats_at c pair m k) k
+act_seats m new (PeerStands c pair x to found same sync) k = seats_with c pair _ m (seats_at c pair m k) k
+act_seats m new (PeerLeaves c pair x found plain) k = seats_with c pair _ m (seats_at c pair m k) k
 act_seats m new (PeersRestart c pair) k = seats_with c pair _ m (seats_at c pair m k) k
 act_seats m new (QueueStands c pair q to found) k = seats_with c pair _ m (seats_at c pair m k) k
 act_seats m new (FlightJoins f number) k = seats_flights m _ k
