@@ -55,5 +55,6 @@ pub mod FlightsPart
 pub mod Slots
 pub mod PromisePart
 pub mod QueuesPart
+pub mod LogsPart
 pub mod Steady
 pub mod CitedMore
