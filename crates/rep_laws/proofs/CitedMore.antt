@@ -1,15 +1,19 @@
 -- What else holds of the state after a legal list of records, as other crates may cite it: where regions and entries stand, and what look-ups find.
-use Rattle.std.proofs.Common.{ℕ, suc, ◌+◌, ◌-◌, ◌≤◌, ◌≡◌, ◌==◌, inl, inr, Bool, true, false, List, [], ◌∷◌, ◌++◌, find, Some, None, slice_get, refl, ap, sym, ◌∙◌, subst, arith}
+use Rattle.std.proofs.Common.{ℕ, suc, ◌+◌, ◌-◌, ◌≤◌, ◌≡◌, ◌==◌, ◌&&◌, inl, inr, Bool, true, false, List, [], ◌∷◌, ◌++◌, find, Some, None, slice_get, refl, ap, sym, ◌∙◌, subst, arith, append_assoc, append-nil, eq-eqb, sum_by}
 use Rattle.std.specs.List.{AllByRecursion}
-use Rattle.std.proofs.lemmas.Bool.{cond_both, eqb-false}
+use Rattle.std.proofs.lemmas.Bool.{cond_both, and_from, eqb-false}
 use Rattle.std.proofs.lemmas.Option.{same_Some}
+use Rattle.std.proofs.lemmas.List.Sums.{sum_by-cons}
 use Rattle.rep_types.specs.declared.ids.Cluster.{Cluster}
 use Rattle.rep_types.specs.declared.record.Record.{Record}
 use Rattle.rep_model.specs.State.{of, is_server, is_region, is_peer, is_flight, is_queue, server_of, queue_of}
 use Rattle.rep_model.specs.Words.{is_paired}
 use Rattle.rep_model.specs.Runs.{state_of, IsLegal}
+use Rattle.wal_entry.specs.Length.{frame_length}
+use Rattle.rep_model.specs.Commits.{commit_count, log_commits}
+use Rattle.rep_model.specs.Frames.{commits_length, pending_length}
 use Rattle.rep_model.specs.Peers.{is_removed, is_synchronous}
-use Rattle.rep_model.specs.Places.{is_named}
+use Rattle.rep_model.specs.Places.{is_named, used}
 use Rattle.rep_model.specs.declared.machine.Machine.{Machine}
 use Rattle.rep_model.specs.declared.machine.Commit.{Commit}
 use Rattle.rep_model.specs.declared.machine.Pending.{Pending}
@@ -20,7 +24,7 @@ use Rattle.rep_model.specs.declared.machine.Queue.{Queue}
 use Rattle.rep_model.specs.declared.machine.Flight.{Flight}
 use Rattle.rep_model.specs.declared.machine.Ticket.{Ticket}
 use Rattle.rep_model.specs.declared.machine.Told.TheVariants as told
-use Rattle.rep_laws.proofs.Lists.{In, in_all, All_weaker, found_in}
+use Rattle.rep_laws.proofs.Lists.{In, in_all, in_filtered, All_weaker, found_in}
 use Rattle.rep_laws.proofs.Moves.{numbers}
 use Rattle.rep_laws.proofs.DoesMirror.{stands_within}
 use Rattle.rep_laws.proofs.Flow.{Recorded}
@@ -33,6 +37,7 @@ use Rattle.rep_laws.proofs.Acts.{works_at, is_at}
 use Rattle.rep_laws.proofs.ActForms.{server_number}
 use Rattle.rep_laws.proofs.Slots.{told_of}
 use Rattle.rep_laws.proofs.PromisePart.{Promised, AllPromised, Precedes, Rises, promises_at}
+use Rattle.rep_laws.proofs.LogsPart.{InLog, LogsRise, Sequenced, used_of, logged_at}
 use Rattle.rep_laws.proofs.QueuesPart.{Stays, queued_at, queue_found}
 use Rattle.rep_laws.proofs.SeatPart.{Works, Known, Placed, Rests, AllPlaced, SeatIn, seats_at, server_found, region_found}
 use Rattle.rep_laws.proofs.Steady.{Steady, steady_journal}
@@ -48,6 +53,34 @@ number_found n (w ∷ vs) i = cond_both (w.number == n) (Some w) (find (is_serve
 rises_at : (front : List Pending) (x : Pending) (back : List Pending) → Rises (front ++ x ∷ back) → (y : Pending) → In y back → Precedes x y
 rises_at [] x back r y i = in_all (Precedes x) y back i r.0
 rises_at (z ∷ front) x back r y i = rises_at front x back r.1 y i
+
+sequenced_at : (done front : List Commit) (x : Commit) (back : List Commit) → Sequenced done (front ++ x ∷ back) → x.seq ≡ suc (commit_count x.region.number (done ++ front))
+sequenced_at done [] x back a = a.0 ∙ ap (λ (w : List Commit). suc (commit_count x.region.number w)) (sym (append-nil done))
+sequenced_at done (y ∷ front) x back a = sequenced_at (done ++ y ∷ []) front x back a.1 ∙ ap (λ (w : List Commit). suc (commit_count x.region.number w)) (append_assoc done (y ∷ []) front)
+
+log_rises_at : (front : List Commit) (x : Commit) (back : List Commit) → LogsRise (front ++ x ∷ back) → (y : Commit) → In y back → x.server ≡ y.server → x.log ≤ y.log
+log_rises_at [] x back r y i = in_all (λ (z : Commit). x.server ≡ z.server → x.log ≤ z.log) y back i r.0
+log_rises_at (w ∷ front) x back r y i = log_rises_at front x back r.1 y i
+
+-- one of a list is at most their sum
+one_of_sum : {X : Type 0} (f : X → ℕ) (x : X) (xs : List X) → In x xs → f x ≤ sum_by f xs
+one_of_sum f x [] i = absurd i
+one_of_sum f x (y ∷ xs) i = elim i [
+  | inl e ↦ first (f x) (f y) (sum_by f xs) (sum_by f (y ∷ xs)) (ap f e) (sum_by-cons f y xs)
+  | inr r ↦ rest (f x) (f y) (sum_by f xs) (sum_by f (y ∷ xs)) (one_of_sum f x xs r) (sum_by-cons f y xs)
+]
+  where
+    first : (a b d n : ℕ) → a ≡ b → n ≡ b + d → a ≤ n
+    first a b d n e g = omega arith
+
+    rest : (a b d n : ℕ) → a ≤ d → n ≡ b + d → a ≤ n
+    rest a b d n e g = omega arith
+
+upto : (a b : ℕ) → a ≤ b → b ≤ 65536 → a ≤ 65536
+upto a b h k = omega arith
+
+part : (a b d : ℕ) → b ≤ d → a + d ≤ 65536 → b ≤ 65536
+part a b d h k = omega arith
 
 module _ (journal : List Record) (legal : IsLegal journal) where
   abbrev now : Machine
@@ -171,3 +204,34 @@ module _ (journal : List Record) (legal : IsLegal journal) where
   recorded_are_commits c pair p i x j =
       let r = in_all (Recorded c _ (of c now).commits _) p (of c now).peers i (outbound c pair now laws.inv).recorded in
       in_all (λ (y : Commit). In y (of c now).commits) x p.recorded j (All_weaker (λ y s. stands_within (of c now).commits y s) p.recorded r.stand)
+
+  -- the commits of a region have the sequence ids 1, 2, .. in order
+  pub commits_are_counted : (c : Cluster) → is_paired c ≡ true → (front : List Commit) (x : Commit) (back : List Commit) → (of c (state_of journal)).commits ≡ front ++ x ∷ back → x.seq ≡ suc (commit_count x.region.number front)
+  commits_are_counted c pair front x back split = sequenced_at [] front x back (subst (Sequenced []) split (logged_at c pair now kept.logged).sequenced)
+
+  -- a commit's log is its server's current one or one before
+  pub commits_are_in_logs : (c : Cluster) → is_paired c ≡ true → (x : Commit) → In x (of c (state_of journal)).commits
+      → (v : Server) × (server_of c x.server (state_of journal) ≡ Some v) × (x.log ≤ v.log) × (1 ≤ x.log)
+  commits_are_in_logs c pair x i = in_all (InLog (of c now).servers) x (of c now).commits i (logged_at c pair now kept.logged).within
+
+  pub logs_begin_at_1 : (c : Cluster) → is_paired c ≡ true → (v : Server) → In v (of c (state_of journal)).servers → 1 ≤ v.log
+  logs_begin_at_1 c pair v i = in_all (λ (w : Server). 1 ≤ w.log) v (of c now).servers i (logged_at c pair now kept.logged).begun
+
+  -- along the commits the logs of one server never fall
+  pub logs_rise : (c : Cluster) → is_paired c ≡ true → (front : List Commit) (x : Commit) (back : List Commit) → (of c (state_of journal)).commits ≡ front ++ x ∷ back → (y : Commit) → In y back → x.server ≡ y.server → x.log ≤ y.log
+  logs_rise c pair front x back split y i = log_rises_at front x back (subst LogsRise split (logged_at c pair now kept.logged).rising) y i
+
+  -- no log is longer than 65,536 bytes, with what is pending; nor is a frame
+  pub logs_fit : (c : Cluster) → is_paired c ≡ true → (s l : ℕ) → commits_length (log_commits s l (of c (state_of journal)).commits) ≤ 65536
+  logs_fit c pair s l = (logged_at c pair now kept.logged).fits s l
+
+  pub frames_fit : (c : Cluster) → is_paired c ≡ true → (v : Server) → In v (of c (state_of journal)).servers → used c v (state_of journal) ≤ 65536
+  frames_fit c pair v i = in_all (λ (w : Server). used_of (of c now).commits w ≤ 65536) v (of c now).servers i (logged_at c pair now kept.logged).room
+
+  pub frame_fits : (c : Cluster) → is_paired c ≡ true → (x : Commit) → In x (of c (state_of journal)).commits → frame_length x.kind ≤ 65536
+  frame_fits c pair x i =
+      let mine : In x (log_commits x.server x.log (of c now).commits) = in_filtered (λ (y : Commit). (y.server == x.server) && (y.log == x.log)) x (of c now).commits (and_from _ _ (eq-eqb x.server x.server refl) (eq-eqb x.log x.log refl)) i in
+      upto (frame_length x.kind) (commits_length (log_commits x.server x.log (of c now).commits)) (one_of_sum (λ (y : Commit). frame_length y.kind) x (log_commits x.server x.log (of c now).commits) mine) (logs_fit c pair x.server x.log)
+
+  pub pending_frame_fits : (c : Cluster) → is_paired c ≡ true → (v : Server) → In v (of c (state_of journal)).servers → (x : Pending) → In x v.pending → frame_length x.kind ≤ 65536
+  pending_frame_fits c pair v i x j = part (commits_length (log_commits v.number v.log (of c now).commits)) (frame_length x.kind) (pending_length v.pending) (one_of_sum (λ (y : Pending). frame_length y.kind) x v.pending j) (frames_fit c pair v i)
