@@ -1,5 +1,5 @@
 -- Which acts the events of peers, of changes of state and of promotions are, and a mirror.
-use Rattle.std.proofs.Common.{ℕ, ◌+◌, ◌≡◌, ◌==◌, ◌&&◌, ◌||◌, Bool, true, false, not, List, [], ◌∷◌, length, take, map, filter, Some, None, is_some, is_none, if◌then◌else◌, refl, ap, sym, ◌∙◌, subst}
+use Rattle.std.proofs.Common.{ℕ, ◌≡◌, ◌==◌, ◌&&◌, ◌||◌, Bool, true, false, not, List, [], ◌∷◌, Some, None, is_some, is_none, if◌then◌else◌, refl, ap, sym, ◌∙◌, subst}
 use Rattle.std.proofs.lemmas.Bool.{cond_both, false≢true}
 use Rattle.std.proofs.lemmas.Option.{none-some, same_Some}
 use Rattle.rep_types.specs.declared.ids.Cluster.{Cluster}
@@ -7,7 +7,6 @@ use Rattle.rep_types.specs.declared.ids.Cluster.TheVariants as cluster
 use Rattle.rep_types.specs.declared.state.Kind.{Kind}
 use Rattle.rep_types.specs.declared.state.SyncState.{SyncState}
 use Rattle.rep_types.specs.declared.state.SyncState.TheVariants as state
-use Rattle.rep_types.specs.declared.state.Phase.{Phase}
 use Rattle.rep_types.specs.declared.state.Phase.TheVariants as phase
 use Rattle.rep_types.specs.declared.state.Call.TheVariants as call
 use Rattle.rep_types.specs.declared.refusal.Needer.TheVariants as needer
@@ -16,7 +15,7 @@ use Rattle.rep_types.specs.declared.reply.Reply.{Reply}
 use Rattle.rep_model.specs.Keyed.{given, if_some, replace}
 use Rattle.rep_model.specs.State.{of, with, other, is_peer, server_of, with_peer, with_link}
 use Rattle.rep_model.specs.Words.{is_paired}
-use Rattle.rep_model.specs.Copies.{unoffered, lowest_copy, with_copy, without_copy}
+use Rattle.rep_model.specs.Copies.{lowest_copy}
 use Rattle.rep_model.specs.Peers.{is_serial, is_synchronous, is_removed, is_active, is_standby, is_idle, peer_of}
 use Rattle.rep_model.specs.Tickets.{tell_waiting}
 use Rattle.rep_model.specs.LogEvents.{live_refusals, log_of, kept_of}
@@ -24,7 +23,6 @@ use Rattle.rep_model.specs.PeerEvents.{peer_refusals, peer_row, enable_row, disa
 use Rattle.rep_model.specs.PromotionEvents.{is_replaying, kept_entries, promote_begin_row, replay_row, promote_end_row}
 use Rattle.rep_model.specs.Row.{site, run_sites, fault_among}
 use Rattle.rep_model.specs.declared.machine.Machine.{Machine}
-use Rattle.rep_model.specs.declared.machine.Side.{Side}
 use Rattle.rep_model.specs.declared.machine.Peer.{Peer}
 use Rattle.rep_model.specs.declared.machine.Link.{Link}
 use Rattle.rep_model.specs.declared.machine.RemoteCopy.{RemoteCopy}
@@ -40,7 +38,7 @@ use Rattle.rep_laws.proofs.Moves.{other_queues, replayed}
 use Rattle.rep_laws.proofs.Steps.{not_some, not_none, if_some_false}
 use Rattle.rep_laws.proofs.DoesQueues.{given_is}
 use Rattle.rep_laws.proofs.DoesPeers.{peer_there, peer_here, is_nothing}
-use Rattle.rep_laws.proofs.Acts.{Act, Acts, Nothing, act, acts_then, LinkStands, TicketsEnd, PeerJoins, PeerStands, PeerLeaves, PeersRestart}
+use Rattle.rep_laws.proofs.Acts.{Acts, Nothing, act, acts_then, LinkStands, TicketsEnd, PeerJoins, PeerStands, PeerLeaves, PeersRestart}
 use Rattle.rep_laws.proofs.ActForms.{Acted, first_acted, fault_acted, simple_acted, given_acted, still_acted, given_acts}
 
 -- a cluster's link stands as said

@@ -1,6 +1,5 @@
 -- What else holds of the state after a legal list of records, as other crates may cite it: where regions and entries stand, and what look-ups find.
 use Rattle.std.proofs.Common.{ℕ, suc, ◌+◌, ◌-◌, ◌≤◌, ◌≡◌, ◌==◌, ◌&&◌, inl, inr, Bool, true, false, List, [], ◌∷◌, ◌++◌, find, Some, None, slice_get, refl, ap, sym, ◌∙◌, subst, arith, append_assoc, append-nil, eq-eqb, sum_by}
-use Rattle.std.specs.List.{AllByRecursion}
 use Rattle.std.proofs.lemmas.Bool.{cond_both, and_from, eqb-false}
 use Rattle.std.proofs.lemmas.Option.{same_Some}
 use Rattle.std.proofs.lemmas.List.Sums.{sum_by-cons}
@@ -38,7 +37,7 @@ use Rattle.rep_laws.proofs.ActForms.{server_number}
 use Rattle.rep_laws.proofs.Slots.{told_of}
 use Rattle.rep_laws.proofs.PromisePart.{Promised, AllPromised, Precedes, Rises, promises_at}
 use Rattle.rep_laws.proofs.LogsPart.{InLog, LogsRise, Sequenced, used_of, logged_at}
-use Rattle.rep_laws.proofs.QueuesPart.{Stays, queued_at, queue_found}
+use Rattle.rep_laws.proofs.QueuesPart.{Unremoved, queued_at, queue_found}
 use Rattle.rep_laws.proofs.SeatPart.{Works, Known, Placed, Rests, AllPlaced, SeatIn, seats_at, server_found, region_found}
 use Rattle.rep_laws.proofs.Steady.{Steady, steady_journal}
 
@@ -183,7 +182,7 @@ module _ (journal : List Record) (legal : IsLegal journal) where
   queue_is_found c pair q i = queue_found q (of c now).queues (front_at c pair now laws.fronted).unique i
 
   pub queue_peer_stands : (c : Cluster) → is_paired c ≡ true → (q : Queue) → In q (of c (state_of journal)).queues → (p : Peer) × (find (is_peer q.peer) (of c (state_of journal)).peers ≡ Some p) × (is_removed p.standing ≡ false)
-  queue_peer_stands c pair q i = in_all (λ (r : Queue). Stays (of c now).peers r.peer) q (of c now).queues i (queued_at c pair now kept.queued).stays
+  queue_peer_stands c pair q i = in_all (λ (r : Queue). Unremoved (of c now).peers r.peer) q (of c now).queues i (queued_at c pair now kept.queued).stays
 
   pub queue_server_stands : (c : Cluster) → is_paired c ≡ true → (q : Queue) → In q (of c (state_of journal)).queues → (v : Server) × (server_of c q.server (state_of journal) ≡ Some v)
   queue_server_stands c pair q i = number_found q.server (of c now).servers (in_all (λ (r : Queue). In r.server (numbers (of c now).servers)) q (of c now).queues i (front_at c pair now laws.fronted).served)

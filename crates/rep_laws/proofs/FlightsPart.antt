@@ -1,8 +1,8 @@
 -- Each act keeps that flights are numbered by their places.
-use Rattle.std.proofs.Common.{ℕ, suc, ◌+◌, ◌≡◌, true, List, [], ◌∷◌, ◌++◌, map, length, find, Some, refl, ap, sym, ◌∙◌, subst, arith}
+use Rattle.std.proofs.Common.{◌+◌, ◌≡◌, List, [], ◌∷◌, ◌++◌, map, length, sym, subst, arith}
 use Rattle.std.proofs.lemmas.List.{map-append}
 use Rattle.rep_types.specs.declared.ids.Cluster.{Cluster}
-use Rattle.rep_model.specs.State.{of, with, is_flight, with_server}
+use Rattle.rep_model.specs.State.{with, is_flight, with_server}
 use Rattle.rep_model.specs.declared.machine.Machine.{Machine}
 use Rattle.rep_model.specs.declared.machine.Side.{Side}
 use Rattle.rep_model.specs.declared.machine.Flight.{Flight}

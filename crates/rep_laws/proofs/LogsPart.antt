@@ -1,7 +1,7 @@
 -- Each act keeps which logs commits stand in, how long logs are, and the sequence ids of commits.
-use Rattle.std.proofs.Common.{ℕ, zero, suc, ◌+◌, ◌≤◌, ◌≡◌, ◌==◌, ◌&&◌, ◌⊎◌, inl, inr, Bool, true, false, List, [], ◌∷◌, ◌++◌, find, filter, Some, None, if◌then◌else◌, refl, ap, sym, ◌∙◌, subst, arith, append_assoc, append-nil, eqb-true, eq-eqb, ne_eqb, le_refl}
+use Rattle.std.proofs.Common.{ℕ, suc, ◌+◌, ◌≤◌, ◌≡◌, ◌==◌, ◌&&◌, ◌⊎◌, inl, inr, Bool, true, false, List, [], ◌∷◌, ◌++◌, find, filter, Some, None, refl, ap, sym, ◌∙◌, subst, arith, append_assoc, append-nil, eqb-true, eq-eqb, ne_eqb, le_refl}
 use Rattle.std.specs.List.{AllByRecursion}
-use Rattle.std.proofs.lemmas.Bool.{cond_both, cond-true, cond-false, cases_eq, and_from, and_parts, and_left, and_right, eqb-false, false≢true}
+use Rattle.std.proofs.lemmas.Bool.{cond-true, cond-false, cases_eq, and_from, and_left, and_right, false≢true}
 use Rattle.std.proofs.lemmas.List.Elements.{filter-append}
 use Rattle.std.proofs.lemmas.List.Sums.{sum_by-append, sum_by-cons}
 use Rattle.std.proofs.lemmas.Option.{none-some, same_Some}
@@ -9,7 +9,7 @@ use Rattle.rep_types.specs.declared.ids.Cluster.{Cluster}
 use Rattle.rep_types.specs.declared.ids.Cluster.TheVariants.{A, B, C}
 use Rattle.wal_entry.specs.Length.{frame_length}
 use Rattle.rep_model.specs.Keyed.{replace}
-use Rattle.rep_model.specs.State.{of, with, is_server, server_of}
+use Rattle.rep_model.specs.State.{of, with, is_server}
 use Rattle.rep_model.specs.Words.{is_paired}
 use Rattle.rep_model.specs.Changes.{takes_pending}
 use Rattle.rep_model.specs.Commits.{commit_count, commit_of, log_commits}
@@ -22,7 +22,7 @@ use Rattle.rep_model.specs.declared.machine.Pending.{Pending}
 use Rattle.rep_model.specs.declared.machine.Server.{Server}
 use Rattle.rep_model.specs.declared.machine.Flight.{Flight}
 use Rattle.rep_model.specs.declared.machine.Ticket.{Ticket}
-use Rattle.rep_laws.proofs.Lists.{In, in_all, all_in, All_weaker, All_both, All_append, All_found, found_in}
+use Rattle.rep_laws.proofs.Lists.{All_weaker, All_append, All_found}
 use Rattle.rep_laws.proofs.Finding.{All_replaced, find_replaced, find_elsewhere, find_more}
 use Rattle.rep_laws.proofs.Committed.{numbered}
 use Rattle.rep_laws.proofs.Numbering.{replaced_keyed}
@@ -87,8 +87,7 @@ later a b d h k = omega arith
 within_again : (v new : Server) (servers : List Server) → find (is_server new.number) servers ≡ Some v → v.log ≤ new.log → (x : Commit) → InLog servers x → InLog (replace (is_server new.number) new servers) x
 within_again v new servers there no_lower x w = elim (cases_eq new.number x.server) [
   | inl e ↦ (
-      let same : v ≡ w.0 = same_Some v w.0 (sym there ∙ (ap (λ k. find (is_server k) servers) e ∙ w.1)) in
-      (
+      let same : v ≡ w.0 = same_Some v w.0 (sym there ∙ (ap (λ k. find (is_server k) servers) e ∙ w.1)) in (
         new,
         ap (λ k. find (is_server k) (replace (is_server new.number) new servers)) (sym e) ∙ find_replaced (is_server new.number) new v servers (eq-eqb new.number new.number refl) there,
         later x.log v.log new.log (subst (λ (z : Server). x.log ≤ z.log) (sym same) w.2) no_lower,

@@ -1,12 +1,12 @@
 -- Each act keeps that the tickets of pending entries are told as their server lives, ascend, and stand at one server alone.
-use Rattle.std.proofs.Common.{ℕ, suc, ◌+◌, ◌-◌, ◌≤◌, ◌≡◌, ◌==◌, ◌⊎◌, inl, inr, Bool, true, false, List, [], ◌∷◌, ◌++◌, length, find, Some, None, slice_get, refl, ap, sym, ◌∙◌, subst, arith, eqb-true}
+use Rattle.std.proofs.Common.{ℕ, suc, ◌+◌, ◌-◌, ◌≤◌, ◌≡◌, ◌⊎◌, inl, inr, Bool, true, false, List, [], ◌∷◌, ◌++◌, length, find, Some, None, slice_get, refl, ap, sym, ◌∙◌, subst, arith, eqb-true}
 use Rattle.std.specs.List.{AllByRecursion}
 use Rattle.std.proofs.lemmas.Bool.{false≢true}
 use Rattle.std.proofs.lemmas.Option.{none-some, same_Some}
 use Rattle.rep_types.specs.declared.ids.Cluster.{Cluster}
 use Rattle.rep_types.specs.declared.ids.Cluster.TheVariants.{A, B, C}
 use Rattle.rep_model.specs.Keyed.{replace}
-use Rattle.rep_model.specs.State.{of, with, other, is_server, server_of, with_server}
+use Rattle.rep_model.specs.State.{of, with, other, is_server, server_of}
 use Rattle.rep_model.specs.Words.{is_paired}
 use Rattle.rep_model.specs.Changes.{takes_pending}
 use Rattle.rep_model.specs.Tickets.{tell_waiting, doubt_pending}
@@ -24,9 +24,9 @@ use Rattle.rep_laws.proofs.Sides.{other_paired, tickets_with, told_after}
 use Rattle.rep_laws.proofs.SoundPart.{slot_more}
 use Rattle.rep_laws.proofs.Numbering.{replaced_keyed, in_replaced, in_append}
 use Rattle.rep_laws.proofs.ActSides.{served_so, committed_so, entries_committed}
-use Rattle.rep_laws.proofs.Slots.{told_of, ticket_of, slot_bound, last_slot, Misses, doubt_aside, told_aside, waiting_same, doubt_hits}
-use Rattle.rep_laws.proofs.SeatPart.{Seats, SeatIn, seats_at, served_live, nowhere}
-use Rattle.rep_laws.proofs.Acts.{Served, IsDue, Committing, Act, LinkStands, TicketsEnd, ServerJoins, ServerStands, ServerDies, RegionsJoin, RegionTurns, EntryPends, PutPends, EntriesCommit, PeerJoins, PeerStands, PeerLeaves, PeersRestart, QueueStands, FlightJoins, FlightStands}
+use Rattle.rep_laws.proofs.Slots.{ticket_of, slot_bound, last_slot, Misses, doubt_aside, told_aside, waiting_same, doubt_hits}
+use Rattle.rep_laws.proofs.SeatPart.{Seats, seats_at, served_live, nowhere}
+use Rattle.rep_laws.proofs.Acts.{IsDue, Committing, Act, LinkStands, TicketsEnd, ServerJoins, ServerStands, ServerDies, RegionsJoin, RegionTurns, EntryPends, PutPends, EntriesCommit, PeerJoins, PeerStands, PeerLeaves, PeersRestart, QueueStands, FlightJoins, FlightStands}
 
 -- the entry's ticket is pending at a server that lives, and doubtful at one that died
 abbrev pub Promised : Cluster → List Ticket → Bool → Pending → Type 0

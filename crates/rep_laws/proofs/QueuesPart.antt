@@ -1,5 +1,5 @@
 -- Each act keeps that a queue's peer stands, and that each peer has a queue for each server that isn't sealed.
-use Rattle.std.proofs.Common.{ℕ, ◌≡◌, ◌==◌, ◌&&◌, ◌||◌, ◌⊎◌, inl, inr, not, Bool, true, false, List, [], ◌∷◌, ◌++◌, map, length, find, Some, None, option_map, if◌then◌else◌, refl, ap, sym, ◌∙◌, subst, eqb-true, eq-eqb, ne_eqb}
+use Rattle.std.proofs.Common.{ℕ, ◌≡◌, ◌==◌, ◌||◌, ◌⊎◌, inl, inr, not, Bool, true, false, List, [], ◌∷◌, ◌++◌, map, length, find, Some, None, option_map, refl, ap, sym, ◌∙◌, subst, eqb-true, eq-eqb, ne_eqb}
 use Rattle.std.specs.List.{AllByRecursion}
 use Rattle.std.proofs.lemmas.Bool.{cond_both, cond-true, cond-false, cases_eq, and_parts, and_from, or_right, not_from_false, not-true, eqb-false, false≢true, true≢false, false_from_ne_true}
 use Rattle.std.proofs.lemmas.List.{map-append}
@@ -35,8 +35,8 @@ use Rattle.rep_laws.proofs.ActSides.{entries_committed}
 use Rattle.rep_laws.proofs.Acts.{Act, LinkStands, TicketsEnd, ServerJoins, ServerStands, ServerDies, RegionsJoin, RegionTurns, EntryPends, PutPends, EntriesCommit, PeerJoins, PeerStands, PeerLeaves, PeersRestart, QueueStands, FlightJoins, FlightStands}
 
 -- the peer of this number isn't removed
-abbrev pub Stays : List Peer → ℕ → Type 0
-Stays peers n = (p : Peer) × (find (is_peer n) peers ≡ Some p) × (is_removed p.standing ≡ false)
+abbrev pub Unremoved : List Peer → ℕ → Type 0
+Unremoved peers n = (p : Peer) × (find (is_peer n) peers ≡ Some p) × (is_removed p.standing ≡ false)
 
 abbrev pub HasQueue : ℕ → ℕ → List Queue → Type 0
 HasQueue p s qs = (q : Queue) × In q qs × (q.peer ≡ p) × (q.server ≡ s)
@@ -48,7 +48,7 @@ Whole peers servers qs = (p : Peer) (v : Server) → In p peers → In v servers
 pub record QueueSide (peers : List Peer) (servers : List Server) (qs : List Queue) : Type 0 where
   pub peers_differ : Different (peer_numbers peers)
   pub synchronous : AllByRecursion (λ (p : Peer). is_synchronous p.kind ≡ true → is_removed p.standing ≡ false) peers
-  pub stays : AllByRecursion (λ (q : Queue). Stays peers q.peer) qs
+  pub stays : AllByRecursion (λ (q : Queue). Unremoved peers q.peer) qs
   pub whole : Whole peers servers qs
 
 abbrev pub QueueIn : Side → Type 0
@@ -91,9 +91,9 @@ server_queued {peers} {servers} {qs} v new found opens o = record {
 
 -- a server comes, with its queues
 
-server_queues_stay : (peers : List Peer) → Different (peer_numbers peers) → (s : ℕ) (ps : List Peer) → AllByRecursion (λ (p : Peer). In p peers) ps → AllByRecursion (λ (q : Queue). Stays peers q.peer) (server_queues s ps)
+server_queues_stay : (peers : List Peer) → Different (peer_numbers peers) → (s : ℕ) (ps : List Peer) → AllByRecursion (λ (p : Peer). In p peers) ps → AllByRecursion (λ (q : Queue). Unremoved peers q.peer) (server_queues s ps)
 server_queues_stay peers d s [] a = tt
-server_queues_stay peers d s (p ∷ ps) a = cond_both (is_removed p.standing) (server_queues s ps) (new_queue p.number s ∷ server_queues s ps) (λ w. AllByRecursion (λ (q : Queue). Stays peers q.peer) w)
+server_queues_stay peers d s (p ∷ ps) a = cond_both (is_removed p.standing) (server_queues s ps) (new_queue p.number s ∷ server_queues s ps) (λ w. AllByRecursion (λ (q : Queue). Unremoved peers q.peer) w)
     (λ _. server_queues_stay peers d s ps a.1)
     (λ f. ((p, found_key (λ (z : Peer). z.number) p peers d a.0, f), server_queues_stay peers d s ps a.1))
 
@@ -108,7 +108,7 @@ come_queued : {peers : List Peer} {servers : List Server} {qs : List Queue} (s :
 come_queued {peers} {servers} {qs} s dual o = record {
   peers_differ = o.peers_differ;
   synchronous = o.synchronous;
-  stays = All_append (λ (q : Queue). Stays peers q.peer) qs (server_queues s peers) o.stays (server_queues_stay peers o.peers_differ s peers (all_in peers));
+  stays = All_append (λ (q : Queue). Unremoved peers q.peer) qs (server_queues s peers) o.stays (server_queues_stay peers o.peers_differ s peers (all_in peers));
   whole = λ p v i j stands unsealed. elim (in_append v servers (new_server s dual ∷ []) j) [
     | inl k ↦ (let h = o.whole p v i k stands unsealed in (h.0, in_left h.0 qs (server_queues s peers) h.1, h.2, h.3))
     | inr k ↦ elim k [
@@ -130,12 +130,12 @@ has_peer_queue n v (w ∷ vs) i f = elim i [
 join_queued : {peers : List Peer} {servers : List Server} {qs : List Queue} (new : Peer) → peer_at new.number peers ≡ None → is_removed new.standing ≡ false → QueueSide peers servers qs → QueueSide (peers ++ new ∷ []) servers (qs ++ new_queues new.number servers)
 join_queued {peers} {servers} {qs} new none stands o =
     let fresh : List Queue = new_queues new.number servers in
-    let here : Stays (peers ++ new ∷ []) new.number = (new, find_first (is_peer new.number) peers (new ∷ []) none ∙ cond-true (new.number == new.number) (Some new) None (eq-eqb new.number new.number refl), stands) in
+    let here : Unremoved (peers ++ new ∷ []) new.number = (new, find_first (is_peer new.number) peers (new ∷ []) none ∙ cond-true (new.number == new.number) (Some new) None (eq-eqb new.number new.number refl), stands) in
     record {
       peers_differ = subst Different (sym (map-append (λ (p : Peer). p.number) peers (new ∷ []))) (different_pushed (peer_numbers peers) new.number (peer_absent new.number peers none) o.peers_differ);
       synchronous = All_append (λ (p : Peer). is_synchronous p.kind ≡ true → is_removed p.standing ≡ false) peers (new ∷ []) o.synchronous ((λ _. stands), tt);
-      stays = All_append (λ (q : Queue). Stays (peers ++ new ∷ []) q.peer) qs fresh (All_weaker (λ q h. (h.0, find_more (is_peer q.peer) h.0 peers (new ∷ []) h.1, h.2)) qs o.stays)
-          (peer_queues_all (λ (q : Queue). Stays (peers ++ new ∷ []) q.peer) new.number servers (all_of _ (λ v. here) servers));
+      stays = All_append (λ (q : Queue). Unremoved (peers ++ new ∷ []) q.peer) qs fresh (All_weaker (λ q h. (h.0, find_more (is_peer q.peer) h.0 peers (new ∷ []) h.1, h.2)) qs o.stays)
+          (peer_queues_all (λ (q : Queue). Unremoved (peers ++ new ∷ []) q.peer) new.number servers (all_of _ (λ v. here) servers));
       whole = λ p v i j is unsealed. elim (in_append p peers (new ∷ []) i) [
         | inl k ↦ (let h = o.whole p v k j is unsealed in (h.0, in_left h.0 qs fresh h.1, h.2, h.3))
         | inr k ↦ elim k [
@@ -156,10 +156,10 @@ peer_queued {peers} {servers} {qs} x new found same sync o =
           (λ h. same ∙ All_found (λ (p : Peer). is_synchronous p.kind ≡ true → is_removed p.standing ≡ false) (is_peer new.number) peers x found o.synchronous (sync h)) o.synchronous;
       stays = All_weaker (λ q h. elim (cases_eq new.number q.peer) [
         | inl e ↦ (
-            new,
-            ap (λ k. find (is_peer k) (replace (is_peer new.number) new peers)) (sym e) ∙ find_replaced (is_peer new.number) new x peers (eq-eqb new.number new.number refl) found,
-            same ∙ (ap (λ (z : Peer). is_removed z.standing) (same_Some x h.0 (sym found ∙ (ap (λ k. find (is_peer k) peers) e ∙ h.1))) ∙ h.2),
-            )
+          new,
+          ap (λ k. find (is_peer k) (replace (is_peer new.number) new peers)) (sym e) ∙ find_replaced (is_peer new.number) new x peers (eq-eqb new.number new.number refl) found,
+          same ∙ (ap (λ (z : Peer). is_removed z.standing) (same_Some x h.0 (sym found ∙ (ap (λ k. find (is_peer k) peers) e ∙ h.1))) ∙ h.2),
+        )
         | inr n ↦ (h.0, find_elsewhere (is_peer new.number) (is_peer q.peer) new peers (ne_eqb new.number q.peer n) (λ y t. ne_eqb y.number q.peer (λ z. n (sym (eqb-true y.number new.number t) ∙ z))) ∙ h.1, h.2)
       ]) qs o.stays;
       whole = λ p v i j is unsealed. elim (in_replaced (is_peer new.number) new p peers i) [
@@ -183,10 +183,10 @@ leave_queued {peers} {servers} {qs} x found plain o =
     record {
       peers_differ = subst Different (sym (map_replaced (λ (p : Peer). p.number) (is_peer x.number) gone x peers found refl)) o.peers_differ;
       synchronous = All_replaced (λ (p : Peer). is_synchronous p.kind ≡ true → is_removed p.standing ≡ false) (is_peer x.number) gone peers (λ h. absurd (true≢false (sym h ∙ plain))) o.synchronous;
-      stays = All_passing (λ (q : Queue). Stays peers q.peer) (λ (q : Queue). Stays now q.peer) (λ (q : Queue). not (q.peer == x.number)) qs (λ q h t. (
-        let n : x.number ≡ q.peer → ⊥ = λ e. eqb-false q.peer x.number (not-true (q.peer == x.number) t) (sym e) in
-        (h.0, find_elsewhere (is_peer x.number) (is_peer q.peer) gone peers (ne_eqb x.number q.peer n) (λ y s. ne_eqb y.number q.peer (λ z. n (sym (eqb-true y.number x.number s) ∙ z))) ∙ h.1, h.2)
-      )) o.stays;
+      stays = All_passing (λ (q : Queue). Unremoved peers q.peer) (λ (q : Queue). Unremoved now q.peer) (λ (q : Queue). not (q.peer == x.number)) qs (λ q h t. (
+          let n : x.number ≡ q.peer → ⊥ = λ e. eqb-false q.peer x.number (not-true (q.peer == x.number) t) (sym e) in
+          (h.0, find_elsewhere (is_peer x.number) (is_peer q.peer) gone peers (ne_eqb x.number q.peer n) (λ y s. ne_eqb y.number q.peer (λ z. n (sym (eqb-true y.number x.number s) ∙ z))) ∙ h.1, h.2)
+          )) o.stays;
       whole = λ p v i j is unsealed. elim (in_all (λ (r : Peer). (r ≡ gone) ⊎ (In r peers × (r.number ≡ x.number → ⊥))) p now i apart) [
         | inl e ↦ absurd (true≢false (ap (λ (z : Peer). is_removed z.standing) (sym e) ∙ is))
         | inr k ↦ (
@@ -198,12 +198,12 @@ leave_queued {peers} {servers} {qs} x found plain o =
 
 -- synchronous peers start again
 
-restart_stays : (peers : List Peer) → Different (peer_numbers peers) → (servers : List Server) (ps : List Peer) (qs : List Queue) → AllByRecursion (λ (p : Peer). In p peers × (is_synchronous p.kind ≡ true → is_removed p.standing ≡ false)) ps → AllByRecursion (λ (q : Queue). Stays peers q.peer) qs
-    → AllByRecursion (λ (q : Queue). Stays peers q.peer) (restart_queues servers ps qs)
+restart_stays : (peers : List Peer) → Different (peer_numbers peers) → (servers : List Server) (ps : List Peer) (qs : List Queue) → AllByRecursion (λ (p : Peer). In p peers × (is_synchronous p.kind ≡ true → is_removed p.standing ≡ false)) ps → AllByRecursion (λ (q : Queue). Unremoved peers q.peer) qs
+    → AllByRecursion (λ (q : Queue). Unremoved peers q.peer) (restart_queues servers ps qs)
 restart_stays peers d servers [] qs i a = a
-restart_stays peers d servers (p ∷ ps) qs i a = cond_both (is_synchronous p.kind) (restart_queues servers ps (other_queues p.number qs ++ new_queues p.number servers)) (restart_queues servers ps qs) (λ w. AllByRecursion (λ (q : Queue). Stays peers q.peer) w)
-    (λ t. restart_stays peers d servers ps _ i.1 (All_append (λ (q : Queue). Stays peers q.peer) (other_queues p.number qs) (new_queues p.number servers) (All_passing (λ (q : Queue). Stays peers q.peer) (λ (q : Queue). Stays peers q.peer) (λ (q : Queue). not (q.peer == p.number)) qs (λ q h _. h) a)
-    (peer_queues_all (λ (q : Queue). Stays peers q.peer) p.number servers (all_of _ (λ v. (p, found_key (λ (z : Peer). z.number) p peers d i.0.0, i.0.1 t)) servers))))
+restart_stays peers d servers (p ∷ ps) qs i a = cond_both (is_synchronous p.kind) (restart_queues servers ps (other_queues p.number qs ++ new_queues p.number servers)) (restart_queues servers ps qs) (λ w. AllByRecursion (λ (q : Queue). Unremoved peers q.peer) w)
+    (λ t. restart_stays peers d servers ps _ i.1 (All_append (λ (q : Queue). Unremoved peers q.peer) (other_queues p.number qs) (new_queues p.number servers) (All_passing (λ (q : Queue). Unremoved peers q.peer) (λ (q : Queue). Unremoved peers q.peer) (λ (q : Queue). not (q.peer == p.number)) qs (λ q h _. h) a)
+    (peer_queues_all (λ (q : Queue). Unremoved peers q.peer) p.number servers (all_of _ (λ v. (p, found_key (λ (z : Peer). z.number) p peers d i.0.0, i.0.1 t)) servers))))
     (λ _. restart_stays peers d servers ps qs i.1 a)
 
 restart_has : (servers : List Server) (v : Server) → In v servers → v.sealed ≡ false → (n : ℕ) (ps : List Peer) (qs : List Queue) → HasQueue n v.number qs → HasQueue n v.number (restart_queues servers ps qs)
@@ -238,11 +238,11 @@ restart_queued {peers} {servers} {qs} n o =
       stays = All_weaker (λ q h. (restarted n h.0, find_changed (is_peer q.peer) (restarted n) (restart_number q.peer n) peers ∙ ap (option_map (restarted n)) h.1, restart_standing n h.0 ∙ h.2)) (restart_queues servers peers qs)
           (restart_stays peers o.peers_differ servers peers qs both o.stays);
       whole = λ p v i j is unsealed. (
-        let x = in_restarted n p peers i in
-        let h = o.whole x.0 v x.1 j (sym (restart_standing n x.0) ∙ (ap (λ (z : Peer). is_removed z.standing) (sym x.2) ∙ is)) unsealed in
-        let number : x.0.number ≡ p.number = sym (restart_same n x.0) ∙ ap (λ (z : Peer). z.number) (sym x.2) in
-        restart_has servers v j unsealed p.number peers qs (h.0, h.1, h.2 ∙ number, h.3)
-      );
+          let x = in_restarted n p peers i in
+          let h = o.whole x.0 v x.1 j (sym (restart_standing n x.0) ∙ (ap (λ (z : Peer). is_removed z.standing) (sym x.2) ∙ is)) unsealed in
+          let number : x.0.number ≡ p.number = sym (restart_same n x.0) ∙ ap (λ (z : Peer). z.number) (sym x.2) in
+          restart_has servers v j unsealed p.number peers qs (h.0, h.1, h.2 ∙ number, h.3)
+          );
     }
 
 -- a queue gives way to one of its key
@@ -258,7 +258,7 @@ stand_queued {peers} {servers} {qs} q new found o =
     let keys = queue_numbers new.peer new.server qs q found in record {
       peers_differ = o.peers_differ;
       synchronous = o.synchronous;
-      stays = All_replaced (λ (r : Queue). Stays peers r.peer) (is_queue new.peer new.server) new qs (subst (Stays peers) keys.0 (All_found (λ (r : Queue). Stays peers r.peer) (is_queue new.peer new.server) qs q found o.stays)) o.stays;
+      stays = All_replaced (λ (r : Queue). Unremoved peers r.peer) (is_queue new.peer new.server) new qs (subst (Unremoved peers) keys.0 (All_found (λ (r : Queue). Unremoved peers r.peer) (is_queue new.peer new.server) qs q found o.stays)) o.stays;
       whole = λ p v i j is unsealed. (let h = o.whole p v i j is unsealed in elim (in_or_replaced (is_queue new.peer new.server) new h.0 qs h.1) [
         | inl k ↦ (h.0, k, h.2, h.3)
         | inr k ↦ (let t = and_parts _ _ k.0 in (new, k.1, sym (eqb-true h.0.peer new.peer t.0) ∙ h.2, sym (eqb-true h.0.server new.server t.1) ∙ h.3))

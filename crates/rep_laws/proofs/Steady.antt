@@ -1,7 +1,7 @@
 -- What is kept by the acts of a legal run, besides the laws.
-use Rattle.std.proofs.Common.{◌≤◌, ◌≡◌, arith, List, [], ◌∷◌}
+use Rattle.std.proofs.Common.{◌≤◌, arith, List, [], ◌∷◌}
 use Rattle.rep_types.specs.declared.ids.Cluster.{Cluster}
-use Rattle.rep_types.specs.declared.ids.Cluster.TheVariants.{A, B, C}
+use Rattle.rep_types.specs.declared.ids.Cluster.TheVariants.{A, B}
 use Rattle.rep_types.specs.declared.record.Record.{Record}
 use Rattle.rep_model.specs.State.{opening, empty_side}
 use Rattle.rep_model.specs.Rows.{row}
