@@ -101,7 +101,7 @@ sounds_told m ts e k = record {
   b = subst (λ (cs : List Cluster). SoundSide B m.b cs) (sym e) k.b;
 }
 
-slot_more : {X : Type 0} (xs ys : List X) (n : ℕ) (x : X) → slice_get xs n ≡ Some x → slice_get (xs ++ ys) n ≡ Some x
+pub slot_more : {X : Type 0} (xs ys : List X) (n : ℕ) (x : X) → slice_get xs n ≡ Some x → slice_get (xs ++ ys) n ≡ Some x
 slot_more [] ys n x e = absurd (none-some x e)
 slot_more (z ∷ xs) ys zero x e = e
 slot_more (z ∷ xs) ys (suc n) x e = slot_more xs ys n x e
