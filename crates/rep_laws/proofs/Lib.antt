@@ -41,3 +41,5 @@ pub mod Fronts
 pub mod FrontPart
 pub mod FrontMoves
 pub mod Cited
+pub mod Lengths
+pub mod RowLengths
