@@ -43,3 +43,4 @@ pub mod FrontMoves
 pub mod Cited
 pub mod Lengths
 pub mod RowLengths
+pub mod RowLeaves
