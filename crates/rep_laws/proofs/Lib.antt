@@ -58,3 +58,6 @@ pub mod QueuesPart
 pub mod LogsPart
 pub mod Steady
 pub mod CitedMore
+pub mod Lengths
+pub mod RowLengths
+pub mod RowLeaves
