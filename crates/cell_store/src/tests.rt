@@ -56,6 +56,10 @@ fn scanned(alloc: Global, edits: &[&[Line<'_>]]) -> Result<String, Fail> {
     text(alloc, &stored(alloc, edits)?.scan(alloc)?)
 }
 
+fn got(alloc: Global, store: &CellStore, row: &str) -> Result<String, Fail> {
+    text(alloc, &store.get(alloc, &Key::new(alloc, row)?)?)
+}
+
 #[test]
 fn a_column_shows_its_put_above_deletes(rt: HostRuntime) -> Result<(), Fail> {
     let alloc = rt.alloc();
@@ -79,5 +83,30 @@ fn a_column_shows_its_put_above_deletes(rt: HostRuntime) -> Result<(), Fail> {
         scanned(alloc, &[&at, &low, &above])?.as_str(),
         "r f:q 8 above;"
     );
+    Ok(())
+}
+
+#[test]
+fn rows_are_read_alone_and_tables_in_order(rt: HostRuntime) -> Result<(), Fail> {
+    let alloc = rt.alloc();
+    let first = [("r2", "g", "a", 1, Some("one")), ("r2", "f", "b", 1, Some("two"))];
+    let second = [("r1", "f", "b", 1, Some("three")), ("r1", "f", "a", 1, Some("four"))];
+    let third = [("r10", "f", "b", 2, Some("five"))];
+    let fourth = [("r2", "f", "b", 1, None), ("r2", "f", "a", 1, None)];
+    let store = stored(alloc, &[&first, &second, &third])?;
+    let one = "r1 f:a 1 four;r1 f:b 1 three;";
+    let ten = "r10 f:b 2 five;";
+    let two = "r2 f:b 1 two;r2 g:a 1 one;";
+    assert_eq!(rt; got(alloc, &store, "r1")?.as_str(), one);
+    assert_eq!(rt; got(alloc, &store, "r10")?.as_str(), ten);
+    assert_eq!(rt; got(alloc, &store, "r2")?.as_str(), two);
+    assert_eq!(rt; got(alloc, &store, "r")?.as_str(), "");
+    assert_eq!(rt; got(alloc, &store, "r3")?.as_str(), "");
+    let all = text(alloc, &store.scan(alloc)?)?;
+    let expected = "r1 f:a 1 four;r1 f:b 1 three;r10 f:b 2 five;r2 f:b 1 two;r2 g:a 1 one;";
+    assert_eq!(rt; all.as_str(), expected);
+    let erased = stored(alloc, &[&first, &fourth, &second])?;
+    assert_eq!(rt; got(alloc, &erased, "r2")?.as_str(), "r2 g:a 1 one;");
+    assert_eq!(rt; got(alloc, &erased, "r1")?.as_str(), one);
     Ok(())
 }
