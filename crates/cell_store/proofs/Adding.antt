@@ -1,11 +1,10 @@
 -- What adding an entry does to the columns, and to the entries of a place.
-use Rattle.std.proofs.Common.{◌≡◌, ℕ, ◌+◌, ◌<◌, ◌≤◌, zero, suc, List, [], ◌∷◌, ◌++◌, map, length, get_or, set, slice_get, Option, Some, None, Result, Ok, Err, Ordering, refl, ap, sym, ◌∙◌, subst, append-nil, arith}
-use Rattle.std.specs.Prelude.{insert, fold, slice_set, IfOk, IfErr}
+use Rattle.std.proofs.Common.{◌≡◌, ℕ, ◌<◌, ◌≤◌, zero, suc, List, [], ◌∷◌, ◌++◌, map, length, get_or, set, slice_get, Some, Result, Ok, Err, Ordering, refl, ap, sym, ◌∙◌, subst, append-nil, arith}
+use Rattle.std.specs.Prelude.{insert, slice_set, IfOk, IfErr}
 use Rattle.std.specs.List.Sorted.{IsBinarySearchResult, IsSearchInRange, IsNonDecreasingBy}
 use Rattle.std.specs.declared.cmp.Ordering.TheVariants.{Less, Equal, Greater}
 use Rattle.std.specs.Ordering.{match_ordering, ordering_index}
 use Rattle.std.proofs.lemmas.Cmp.{tied_back}
-use Rattle.std.proofs.lemmas.Grind.{common_steps}
 use Rattle.std.proofs.lemmas.Option.{none-some, same_Some}
 use Rattle.std.proofs.lemmas.List.{map-append}
 use Rattle.std.proofs.lemmas.List.Sums.{fold-append}
@@ -16,7 +15,7 @@ use Rattle.rep_model.specs.See.{column_order, add_column, version_of, versions}
 use Rattle.rep_model.specs.declared.views.Column.{Column}
 use Rattle.cell_store.specs.declared.entry.Entry.{Entry}
 use Rattle.cell_store.specs.Entries.{column, entry_order, entry_of, joined, add, add_all, kept, IsBelow, IsRising}
-use Rattle.cell_store.proofs.Order.{total, each_order, above, below, rising-add}
+use Rattle.cell_store.proofs.Order.{total, above, below, rising-add}
 
 pub columns-add : (n : Entry) (es : List Entry) → map column (add n es) ≡ add_column (column n) (map column es)
 columns-add n [] = refl

@@ -1,5 +1,5 @@
 -- The entries of some puts and deletes are those of their columns, each joined of its own.
-use Rattle.std.proofs.Common.{◌≡◌, ℕ, Bool, true, false, cond, not, ◌&&◌, ◌||◌, List, [], ◌∷◌, ◌++◌, map, filter, Option, Some, None, Ordering, refl, ap, sym, ◌∙◌, subst, append_assoc, append-nil}
+use Rattle.std.proofs.Common.{◌≡◌, ℕ, Bool, true, false, cond, ◌||◌, List, [], ◌∷◌, ◌++◌, map, filter, Option, Some, None, Ordering, refl, ap, sym, ◌∙◌, append_assoc, append-nil}
 use Rattle.std.specs.Prelude.{fold}
 use Rattle.std.specs.declared.cmp.Ordering.TheVariants.{Less, Equal, Greater}
 use Rattle.std.specs.List.{list_any}
@@ -8,12 +8,12 @@ use Rattle.std.proofs.lemmas.Bool.{or_parts}
 use Rattle.std.proofs.lemmas.Cmp.{alike_right, eq_by_cmp_equiv}
 use Rattle.std.proofs.lemmas.List.Elements.{filter-append}
 use Rattle.std.proofs.lemmas.List.Sums.{fold-append}
-use Rattle.rep_model.specs.See.{column_order, add_column, later_delete}
+use Rattle.rep_model.specs.See.{column_order, add_column}
 use Rattle.rep_model.specs.declared.views.Column.{Column}
 use Rattle.cell_store.specs.declared.entry.Entry.{Entry}
 use Rattle.cell_store.specs.declared.entry.Latest.{Latest}
-use Rattle.cell_store.specs.Entries.{column, entry_order, join_deletes, join_puts, joined, add, add_all, IsBelow, IsRising}
-use Rattle.cell_store.proofs.Order.{total, above, below, below-trans, below-same, rising-add}
+use Rattle.cell_store.specs.Entries.{column, join_deletes, join_puts, joined, add, add_all, IsBelow, IsRising}
+use Rattle.cell_store.proofs.Order.{total, below-trans, below-same, rising-add}
 
 -- the entry is of the column
 abbrev pub is_at : Column → Entry → Bool

@@ -1,6 +1,5 @@
 -- The entries of a row are those of the row's edits.
-use Rattle.std.proofs.Common.{◌≡◌, ℕ, Bool, true, false, cond, List, [], ◌∷◌, ◌++◌, map, filter, Ordering, refl, ap, sym, ◌∙◌, subst}
-use Rattle.std.specs.Prelude.{fold}
+use Rattle.std.proofs.Common.{◌≡◌, ℕ, Bool, true, false, cond, List, [], ◌∷◌, ◌++◌, map, filter, Ordering, refl, ap, sym, ◌∙◌}
 use Rattle.std.specs.declared.cmp.Ordering.TheVariants.{Less, Equal, Greater}
 use Rattle.std.specs.Cmp.Lexicographic.{slice_cmp, texts_ties}
 use Rattle.std.specs.List.{filter_map}
@@ -11,7 +10,7 @@ use Rattle.std.proofs.lemmas.List.{map-append}
 use Rattle.std.proofs.lemmas.List.Elements.{filter-append}
 use Rattle.rep_types.specs.Edit.{EditValue}
 use Rattle.rep_types.specs.declared.cell.Cell.{Cell}
-use Rattle.rep_model.specs.See.{column_order, version_of, versions, see}
+use Rattle.rep_model.specs.See.{version_of, versions, see}
 use Rattle.rep_model.specs.declared.views.Column.{Column}
 use Rattle.cell_store.specs.declared.entry.Entry.{Entry}
 use Rattle.cell_store.specs.Entries.{column, entry_order, entry_of, joined, add, add_all, kept, shown_of, is_of_row, IsBelow, IsRising}

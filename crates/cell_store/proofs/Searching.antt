@@ -1,5 +1,5 @@
 -- Entries that rise can be searched by their columns and by their rows.
-use Rattle.std.proofs.Common.{◌≡◌, ℕ, ◌+◌, ◌-◌, ◌<◌, ◌≤◌, zero, suc, Bool, true, false, cond, List, [], ◌∷◌, map, length, get_or, take, drop, filter, inl, inr, Ordering, refl, ap, sym, ◌∙◌, subst, arith}
+use Rattle.std.proofs.Common.{◌≡◌, ℕ, ◌+◌, ◌-◌, ◌<◌, ◌≤◌, zero, suc, Bool, true, false, cond, List, [], ◌∷◌, map, length, get_or, take, drop, filter, inl, inr, Ordering, refl, ap, ◌∙◌, subst, arith}
 use Rattle.std.specs.List.{AllWithin}
 use Rattle.std.specs.List.Sorted.{IsSortedBy, IsNonDecreasingBy, IsPartitionedBy, IsPartitionPoint}
 use Rattle.std.specs.declared.cmp.Ordering.TheVariants.{Less, Equal, Greater}
@@ -8,10 +8,8 @@ use Rattle.std.specs.Ordering.{nat_cmp, is_lt, is_le, is_eq, ordering_index, ord
 use Rattle.std.proofs.lemmas.Bool.{true≢false, false≢true, cases_lt}
 use Rattle.std.proofs.lemmas.Cmp.{nat_list_cmp_total}
 use Rattle.std.proofs.lemmas.List.Sorted.{searchable_from_sorted}
-use Rattle.rep_model.specs.See.{column_order}
-use Rattle.rep_model.specs.declared.views.Column.{Column}
 use Rattle.cell_store.specs.declared.entry.Entry.{Entry}
-use Rattle.cell_store.specs.Entries.{column, entry_order, is_below_row, is_upto_row, is_of_row, IsBelow, IsRising}
+use Rattle.cell_store.specs.Entries.{column, entry_order, is_below_row, is_upto_row, is_of_row, IsRising}
 use Rattle.cell_store.proofs.Order.{total, above}
 
 next-above : (es : List Entry) (k : ℕ) (d : Entry) → IsRising (map column es) → suc k < length es → entry_order (get_or es k d) (get_or es (suc k) d) ≡ Less

@@ -1,5 +1,5 @@
 -- What the entries of some edits show is what the edits show.
-use Rattle.std.proofs.Common.{◌≡◌, ℕ, Bool, true, false, cond, nat_lt, ◌&&◌, List, [], ◌∷◌, ◌++◌, map, filter, Option, Some, None, Ordering, refl, ap, sym, ◌∙◌}
+use Rattle.std.proofs.Common.{◌≡◌, ℕ, Bool, true, false, cond, nat_lt, ◌&&◌, List, [], ◌∷◌, map, filter, Option, Some, None, Ordering, refl, ap, sym, ◌∙◌}
 use Rattle.std.specs.Prelude.{fold}
 use Rattle.std.specs.declared.cmp.Ordering.TheVariants.{Less, Equal, Greater}
 use Rattle.std.specs.Cmp.Lexicographic.{slice_cmp, texts_ties}
@@ -15,11 +15,11 @@ use Rattle.rep_types.specs.declared.cell.Cell.{Cell}
 use Rattle.rep_types.specs.declared.cell.CellKind.{CellKind}
 use Rattle.rep_types.specs.declared.cell.CellKind.TheVariants.{Put, Erase}
 use Rattle.rep_types.specs.declared.cell.CellView.{CellView}
-use Rattle.rep_model.specs.See.{Version, Stamped, version_of, versions, column_of, column_order, is_of, cells_of, delete_after, put_after, greatest_delete, latest_put, is_hidden, view_of, shown, add_version, columns, see}
+use Rattle.rep_model.specs.See.{Version, Stamped, version_of, versions, is_of, cells_of, delete_after, put_after, greatest_delete, latest_put, is_hidden, view_of, shown, add_version, see}
 use Rattle.rep_model.specs.declared.views.Column.{Column}
 use Rattle.cell_store.specs.declared.entry.Entry.{Entry}
 use Rattle.cell_store.specs.declared.entry.Latest.{Latest}
-use Rattle.cell_store.specs.Entries.{column, delete_of, put_of, entry_of, join_deletes, join_puts, later, joined, add_all, kept, stamped, shown_of}
+use Rattle.cell_store.specs.Entries.{delete_of, put_of, entry_of, join_deletes, join_puts, joined, kept, stamped, shown_of}
 use Rattle.cell_store.proofs.Columns.{is_at, own, blank, at_column, column-fold, add_columns, add_all-columns}
 
 is_eq-then : (o p : Ordering) → is_eq (ordering_then o p) ≡ (is_eq o && is_eq p)
@@ -137,7 +137,7 @@ entry_shows edits c =
     let e = fold joined (blank c) ns in
     let delete : e.delete ≡ greatest_delete xs = delete-fold (blank c) ns ∙ edits_fold (λ d n p. join_deletes d n) c None edits ∙ deletes None xs in
     let put : option_map stamped e.put ≡ latest_put xs =
-        ap (option_map stamped) (put-fold (blank c) ns ∙ edits_fold (λ q n p. join_puts q p) c None edits) ∙ puts None xs in
+    ap (option_map stamped) (put-fold (blank c) ns ∙ edits_fold (λ q n p. join_puts q p) c None edits) ∙ puts None xs in
     ap (λ k. shown_if k e.delete e.put) (column-fold (blank c) ns)
     ∙ shown-stamped c e.delete e.put
     ∙ (λ i. shown_unless c (delete i) (put i))

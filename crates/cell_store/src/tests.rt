@@ -89,8 +89,14 @@ fn a_column_shows_its_put_above_deletes(rt: HostRuntime) -> Result<(), Fail> {
 #[test]
 fn rows_are_read_alone_and_tables_in_order(rt: HostRuntime) -> Result<(), Fail> {
     let alloc = rt.alloc();
-    let first = [("r2", "g", "a", 1, Some("one")), ("r2", "f", "b", 1, Some("two"))];
-    let second = [("r1", "f", "b", 1, Some("three")), ("r1", "f", "a", 1, Some("four"))];
+    let first = [
+        ("r2", "g", "a", 1, Some("one")),
+        ("r2", "f", "b", 1, Some("two")),
+    ];
+    let second = [
+        ("r1", "f", "b", 1, Some("three")),
+        ("r1", "f", "a", 1, Some("four")),
+    ];
     let third = [("r10", "f", "b", 2, Some("five"))];
     let fourth = [("r2", "f", "b", 1, None), ("r2", "f", "a", 1, None)];
     let store = stored(alloc, &[&first, &second, &third])?;

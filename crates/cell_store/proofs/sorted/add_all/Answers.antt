@@ -1,4 +1,4 @@
-use Rattle.std.proofs.Common.{◌≡◌, ◌+◌, ◌∷◌, length, ap, sym, ◌∙◌, arith}
+use Rattle.std.proofs.Common.{◌≡◌, ◌∷◌, length, ap, sym, ◌∙◌, arith}
 use Rattle.cell_store.specs.Entries.{add_all}
 use Rattle.cell_store.proofs.Adding.{add-rising}
 use Rattle.cell_store.proofs.sorted.add_all.Goals as goal

@@ -1,6 +1,4 @@
-use Rattle.std.proofs.Common.{◌≡◌, ℕ, rules, slice_get, Option, Some, Ok, Err, Result}
-use Rattle.std.specs.List.Sorted.{IsBinarySearchResult, IsSearchInRange}
-use Rattle.std.specs.Prelude.{IfOk, IfErr, slice_set, insert, length}
+use Rattle.std.proofs.Common.{rules}
 use Rattle.std.proofs.lemmas.Fn.{always_returns_same}
 use Rattle.cell_store.specs.Entries.{entry_order}
 use Rattle.cell_store.proofs.Adding.{place_stands, place_absent}
