@@ -33,6 +33,7 @@ use Rattle.rep_model.specs.declared.machine.Flight.{Flight}
 use Rattle.rep_model.specs.declared.machine.Ticket.{Ticket}
 use Rattle.rep_model.specs.declared.machine.Told.{Told}
 use Rattle.rep_model.specs.declared.machine.Told.TheVariants as told
+pub use Rattle.rep_laws.specs.Settled.{is_at}
 use Rattle.rep_laws.proofs.Lists.{In}
 use Rattle.rep_laws.proofs.Moves.{other_queues}
 use Rattle.rep_laws.proofs.Flow.{peer_at}
@@ -46,15 +47,6 @@ works_at s (place.On t) = t == s
 works_at s (place.Closing t) = t == s
 works_at s (place.Lost t) = false
 works_at s place.Gone = false
-
--- so it is, or it was lost with this server
-abbrev pub is_at : ℕ → PlaceOf → Bool
-is_at s place.Off = false
-is_at s (place.Opening t) = t == s
-is_at s (place.On t) = t == s
-is_at s (place.Closing t) = t == s
-is_at s (place.Lost t) = t == s
-is_at s place.Gone = false
 
 abbrev pub region_numbers : List Hosted → List ℕ
 region_numbers hs = map (λ (h : Hosted). h.region.number) hs

@@ -24,26 +24,13 @@ use Rattle.rep_model.specs.declared.machine.Flight.{Flight}
 use Rattle.rep_model.specs.declared.machine.Ticket.{Ticket}
 use Rattle.rep_model.specs.declared.machine.Told.{Told}
 use Rattle.rep_model.specs.declared.machine.Told.TheVariants as told
+use Rattle.rep_laws.specs.Growing.{accepted, sent, Grows}
 use Rattle.rep_laws.proofs.Sides.{flights_with, tickets_with}
 
 -- as many tickets and flights as before
 pub record SameLengths (m new : Machine) : Type 0 where
   pub tickets : length new.tickets ≡ length m.tickets
   pub flights : length new.flights ≡ length m.flights
-
--- how many puts a reply accepts, and how many batches it sends
-abbrev pub accepted : Reply → ℕ
-accepted (reply.Accepted region seq ticket) = 1
-accepted _ = 0
-
-abbrev pub sent : Reply → ℕ
-sent (reply.Sent flight entries forms) = 1
-sent _ = 0
-
--- a row makes a ticket exactly where it accepts a put, and a flight exactly where it sends a batch
-pub record Grows (m : Machine) (r : Row) : Type 0 where
-  pub tickets : length r.state.tickets ≡ length m.tickets + accepted r.reply
-  pub flights : length r.state.flights ≡ length m.flights + sent r.reply
 
 -- forms of rows
 

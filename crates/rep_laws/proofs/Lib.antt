@@ -61,3 +61,4 @@ pub mod CitedMore
 pub mod Lengths
 pub mod RowLengths
 pub mod RowLeaves
+pub mod Settling

@@ -47,6 +47,7 @@ use Rattle.rep_model.specs.declared.faults.Site.{Site}
 use Rattle.rep_model.specs.declared.machine.Side.{Side}
 use Rattle.rep_model.specs.declared.machine.Ticket.{Ticket}
 use Rattle.rep_laws.proofs.DoesPeers.{is_nothing}
+use Rattle.rep_laws.specs.Alone.{alone_in, makes_log}
 use Rattle.rep_laws.proofs.Sides.{of_tickets, of_flights, settled_is}
 
 -- the other cluster's side is as before: of a state, and of a row
@@ -383,52 +384,6 @@ claim_leaves c pair by s p said m =
     ∷ []) (site c call.Put ∷ []) said (leaves (apart c pair _ m))
 
 -- all rows
-
--- the cluster of an event that changes no other: each but those of a flight, and those that change the other's remote copies
-abbrev pub alone_in : Event → Option Cluster
-alone_in (event.Server c s) = Some c
-alone_in (event.Table c t fs) = Some c
-alone_in (event.OpenBegin c r s) = Some c
-alone_in (event.OpenEnd c r) = Some c
-alone_in (event.CloseBegin c r) = Some c
-alone_in (event.CloseEnd c r) = Some c
-alone_in (event.Put c t k cells) = Some c
-alone_in (event.Get c t k) = Some c
-alone_in (event.Show c t) = Some c
-alone_in (event.Sync c s) = Some c
-alone_in (event.Roll c s) = Some c
-alone_in (event.Crash c s) = Some c
-alone_in (event.Seal c s) = Some c
-alone_in (event.Recover c r) = Some c
-alone_in (event.Split c r k) = Some c
-alone_in (event.Merge c r s) = Some c
-alone_in (event.Flush c r) = Some c
-alone_in (event.Compact c r) = Some c
-alone_in (event.Sweep c s) = Some c
-alone_in (event.SweepRemote c s) = None
-alone_in (event.Peer c p k ts) = Some c
-alone_in (event.Enable c p) = Some c
-alone_in (event.Disable c p) = Some c
-alone_in (event.Remove c p) = Some c
-alone_in (event.MakeSerial c p) = Some c
-alone_in (event.Send c p s n) = Some c
-alone_in (event.Deliver f) = None
-alone_in (event.Lose f) = None
-alone_in (event.Confirm f) = None
-alone_in (event.Claim c by s p) = Some c
-alone_in (event.Mirror c s) = None
-alone_in (event.TransitBegin c to) = Some c
-alone_in (event.TransitEnd c) = Some c
-alone_in (event.MakeFolder c) = Some c
-alone_in (event.PromoteBegin c) = Some c
-alone_in (event.Replay c) = Some c
-alone_in (event.PromoteEnd c) = Some c
-
--- a new log has a remote copy, where it is dual
-abbrev pub makes_log : Event → Bool
-makes_log (event.Server c s) = true
-makes_log (event.Roll c s) = true
-makes_log _ = false
 
 abbrev LeavesIn : Event → Reply → Machine → Option Cluster → Type 0
 LeavesIn e said m None = Unit {0}

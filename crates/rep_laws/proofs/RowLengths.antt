@@ -49,7 +49,8 @@ use Rattle.rep_model.specs.declared.machine.RemoteCopy.{RemoteCopy}
 use Rattle.rep_model.specs.declared.machine.Told.TheVariants as told
 use Rattle.rep_laws.proofs.Sides.{flights_with}
 use Rattle.rep_laws.proofs.DoesPeers.{is_nothing}
-use Rattle.rep_laws.proofs.Lengths.{SameLengths, Grows, same, and_same, answered, still_grows, unless_grows, first_grows, fault_grows, simple_grows, given_grows, given_same, sided, sided_twice, make_copy_same, left_same, accepts, sends, doubted_length, waited_length, settled_same, settled_with, flown_same, marked_length}
+use Rattle.rep_laws.specs.Growing.{Grows}
+use Rattle.rep_laws.proofs.Lengths.{SameLengths, same, and_same, answered, still_grows, unless_grows, first_grows, fault_grows, simple_grows, given_grows, given_same, sided, sided_twice, make_copy_same, left_same, accepts, sends, doubted_length, waited_length, settled_same, settled_with, flown_same, marked_length}
 
 -- servers and logs
 
