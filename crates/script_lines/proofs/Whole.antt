@@ -1,16 +1,18 @@
 -- The lines of a script go on by those of one command.
 use Rattle.std.proofs.Common.{◌≡◌, ℕ, ◌+◌, false, List, [], ◌∷◌, ◌++◌, Option, Some, None, length, drop, cond, refl, sym, ap, ◌∙◌, subst, append_assoc, add-zero, zero-add, add_assoc, length-append}
-use Rattle.std.specs.Prelude.{is_some}
+use Rattle.std.specs.Prelude.{codes, is_some}
 use Rattle.std.proofs.Math.Seq.{drop-append_seam}
 use Rattle.std.proofs.lemmas.List.{append-nil}
 use Rattle.rep_types.specs.declared.event.Event.{Event}
 use Rattle.rep_types.specs.declared.record.Record.{Record}
+use Rattle.rep_model.specs.Keyed.{given}
 use Rattle.rep_model.specs.Runs.{after, state_from, state_of}
 use Rattle.rep_model.specs.State.{opening}
 use Rattle.rep_model.specs.declared.machine.Machine.{Machine}
 use Rattle.report_text.specs.Lines.{lines_from}
 use Rattle.script_text.specs.declared.command.Command.{Command}
 use Rattle.script_text.specs.declared.command.Command.TheVariants as command
+use Rattle.script_text.specs.Drains.{numbers, drain_end}
 use Rattle.script_text.specs.Due.{due, Does, ExpandsFrom}
 use Rattle.script_text.specs.Expansion.{asks_state}
 use Rattle.script_lines.specs.Lines.{own_of, end_text, command_text, lines_after, lines}
@@ -109,3 +111,8 @@ pub command_text-plain : (c : Command) (before : ℕ) (m : Machine) (own : List 
 command_text-plain c before m own h =
     let view = view_text c (before + length own) (state_from m own) in
     ap (λ (t : List ℕ). lines_from (before + 1) own ++ t) (sym (append-nil view) ∙ ap (λ (t : List ℕ). view ++ t) (sym (end-none c m own h)))
+
+-- with nothing in either cluster, a drain is its last line alone
+drain-line : lines (command.Drain ∷ []) [] ≡ codes "drained\n"
+unfolding lines drain_end numbers given
+drain-line = refl
