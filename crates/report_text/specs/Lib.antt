@@ -1,3 +1,4 @@
+pub mod DrainLine
 pub mod Events
 pub mod Lines
 pub mod Lists

@@ -1,4 +1,4 @@
--- The lines of a journal.
+-- The lines of records.
 use Rattle.std.specs.Prelude.{ℕ, ◌+◌, List, [], ◌∷◌, ◌++◌, codes, flat_map}
 use Rattle.std.specs.Fmt.{decimal}
 use Rattle.rep_types.specs.declared.record.Record.{Record}
@@ -17,10 +17,7 @@ shown_text _ = []
 abbrev pub record_text : ℕ → Record → List ℕ
 record_text number r = decimal number ++ codes " " ++ event_text r.event ++ codes " -> " ++ reply_text r.reply ++ 10 ∷ shown_text r.reply
 
--- the lines of a journal whose first record has this number
+-- the lines of records that follow each other, the first of which has this number
 abbrev pub lines_from : ℕ → List Record → List ℕ
 lines_from number [] = []
 lines_from number (r ∷ rs) = record_text number r ++ lines_from (number + 1) rs
-
-unfoldable pub lines : List Record → List ℕ
-lines rs = lines_from 1 rs

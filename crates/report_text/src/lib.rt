@@ -1,8 +1,9 @@
-//! The texts of records: each event as a script has it, and its reply. The words are this
-//! project's own.
+//! The texts of records: each event as a script has it, and its reply; and the lines of views and
+//! of a drain's end. The words are this project's own.
 #![tactic(auto)]
 
 mod cell;
+mod drains;
 mod event;
 mod lines;
 mod lists;
@@ -15,6 +16,7 @@ mod summary;
 mod tests;
 mod words;
 
+pub use drains::drain_line;
 pub use lines::{print_lines, print_record, views};
 pub use queues::queue_line;
 pub use regions::region_line;

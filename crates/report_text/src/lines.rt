@@ -1,5 +1,5 @@
-ghost use Rattle.std.specs.Prelude.{◌≡◌, ◌++◌, IsOk, OnOk, flat_map};
-ghost use Rattle.report_text.specs.Lines.{lines, record_text, shown_text};
+ghost use Rattle.std.specs.Prelude.{◌≡◌, ◌+◌, ◌^◌, ◌<◌, ◌++◌, IsOk, OnOk, flat_map, length};
+ghost use Rattle.report_text.specs.Lines.{lines_from, record_text, shown_text};
 ghost use Rattle.report_text.specs.Values.{view_text};
 
 use crate::cell::write_views;
@@ -29,12 +29,12 @@ fn write_record(out: &mut Vec<u8>, number: u64, made: &Record) -> io::Result<()>
     write_shown(out, &made.reply)
 }
 
-#[tactic(auto, unfolding(crate::specs::Lines::lines))]
-fn write_lines(out: &mut Vec<u8>, journal: &[Record]) -> io::Result<()>
-    ensures { OnOk result (out.new.items ≡ out.old.items ++ lines journal.now) }
+fn write_lines(out: &mut Vec<u8>, first: u64, records: &[Record]) -> io::Result<()>
+    requires { first + length records.now < 2 ^ 64 }
+    ensures { OnOk result (out.new.items ≡ out.old.items ++ lines_from first records.now) }
 {
-    let mut number = 1;
-    for made in journal {
+    let mut number = first;
+    for made in records {
         write_record(out, number, made)?;
         number += 1;
     }
@@ -67,10 +67,11 @@ pub fn views(list: &Views, out: &mut Vec<u8>) -> Result<(), Memory>
     or_memory(write_views(out, list.as_slice()))
 }
 
-/// Adds the lines of a journal, whose records are numbered from 1. After Memory a part of these
-/// bytes may stand at the end of `out`.
-pub fn print_lines(journal: &[Record], out: &mut Vec<u8>) -> Result<(), Memory>
-    ensures { OnOk result (out.new.items ≡ out.old.items ++ lines journal.now) }
+/// Adds the lines of records that follow each other in a journal, the first of which has this
+/// number. After Memory a part of these bytes may stand at the end of `out`.
+pub fn print_lines(first: u64, records: &[Record], out: &mut Vec<u8>) -> Result<(), Memory>
+    requires { first + length records.now < 2 ^ 64 }
+    ensures { OnOk result (out.new.items ≡ out.old.items ++ lines_from first records.now) }
 {
-    or_memory(write_lines(out, journal))
+    or_memory(write_lines(out, first, records))
 }

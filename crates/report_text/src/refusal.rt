@@ -6,7 +6,7 @@ use rep_types::{Call, Cause, Cluster, Needer, Phase, Refusal, ServerId, SyncStat
 use std::io;
 use std::io::Write;
 
-fn write_wrongstate(out: &mut Vec<u8>, have: SyncState, phase: &Phase) -> io::Result<()>
+pub fn write_wrongstate(out: &mut Vec<u8>, have: SyncState, phase: &Phase) -> io::Result<()>
     ensures { OnOk result (out.new.items ≡ out.old.items ++ wrongstate_text have phase.now) }
 {
     write!(out, "wrongstate have={} phase=", state_word(have))?;

@@ -1,8 +1,8 @@
 use super::*;
 use rep_types::{
-    Bytes, Call, Cause, CellView, Cluster, Event, Items, Key, Name, PeerId, Phase, PlaceOf,
+    Bytes, Call, Cause, CellView, Cluster, DrainEnd, Event, Items, Key, Name, PeerId, Phase, PlaceOf,
     QueueView, Record, Refusal, RegionId, RegionLine, Reply, ServerId, SideLine, StatusLine,
-    SyncState, Tickets, Views,
+    StuckCause, SyncState, Tickets, Views,
 };
 use std::alloc::Global;
 use std::test::Fail;
@@ -203,8 +203,8 @@ fn journals_are_printed(rt: HostRuntime) -> Result<(), Fail> {
         record(Event::Show { cluster, table }, Reply::Shown { cells }),
     ];
     let mut out = Vec::new(alloc);
-    print_lines(&journal, &mut out)?;
-    let text = "1 server a 2 -> ok\n2 show a t -> ok cells=1\n| r.1 f:q@10=v\n";
+    print_lines(9, &journal, &mut out)?;
+    let text = "9 server a 2 -> ok\n10 show a t -> ok cells=1\n| r.1 f:q@10=v\n";
     assert_eq!(rt; out.as_slice(), text.as_bytes());
     Ok(())
 }
@@ -278,6 +278,26 @@ fn queues_and_regions_are_printed(rt: HostRuntime) -> Result<(), Fail> {
     region_line(&line, &mut out)?;
     let text =
         "queue a 1 2 owner=2 left=3 flight=none\nregion a 1 t - m on:2 barriers=1,4 final=none parents=-\n";
+    assert_eq!(rt; out.as_slice(), text.as_bytes());
+    Ok(())
+}
+
+#[test]
+fn the_end_of_a_drain_is_printed(rt: HostRuntime) -> Result<(), Fail> {
+    let alloc = rt.alloc();
+    let mut out = Vec::new(alloc);
+    drain_line(&DrainEnd::Drained, &mut out)?;
+    let stuck = DrainEnd::Stuck {
+        cluster: Cluster::B,
+        peer: PeerId::new(4).ok_or("no peer")?,
+        server: ServerId::new(64).ok_or("no server")?,
+        cause: StuckCause::WrongState {
+            have: SyncState::Standby,
+            phase: Phase::Replaying { left: 2 },
+        },
+    };
+    drain_line(&stuck, &mut out)?;
+    let text = "drained\nstuck b 4 64 wrongstate have=standby phase=replaying:2\n";
     assert_eq!(rt; out.as_slice(), text.as_bytes());
     Ok(())
 }

@@ -1,10 +1,10 @@
--- A command goes on by one event, and a script by one command.
+-- A command goes on by one event.
 use Rattle.std.proofs.Common.{◌≡◌, List, [], ◌∷◌, ◌++◌, Some, None, refl, sym, ap, ◌∙◌, append_assoc}
 use Rattle.std.proofs.lemmas.List.{append-nil}
 use Rattle.rep_types.specs.declared.reply.Reply.{Reply}
 use Rattle.rep_types.specs.declared.record.Record.{Record}
 use Rattle.script_text.specs.declared.command.Command.{Command}
-use Rattle.script_text.specs.Expansion.{next_event, GoesOn, Performs, Expands}
+use Rattle.script_text.specs.Expansion.{next_event, GoesOn, Performs}
 
 -- the records are the command's next events so far
 abbrev pub GoesSoFar : Command → List Reply → List Record → Type 0
@@ -49,8 +49,3 @@ SoFar-push c before now next replies more r so_far e a n m =
 pub SoFar-end : (c : Command) (before now : List Record) (replies : List Reply) → SoFar c before now replies → next_event c replies ≡ None → (own : List Record) × (now ≡ before ++ own) × Performs c own
 SoFar-end c before now replies so_far e =
     (so_far.own, so_far.grown, GoesSoFar-end c [] so_far.own so_far.events (ap (next_event c) (sym so_far.answers) ∙ e))
-
-pub Expands-push : (cs : List Command) (records : List Record) (c : Command) (own : List Record) → Expands cs records → Performs c own → Expands (cs ++ c ∷ []) (records ++ own)
-Expands-push [] records c own e p = (own, [], ap (λ rs. rs ++ own) e ∙ sym (append-nil own), p, refl)
-Expands-push (x ∷ cs) records c own e p =
-    (e.0, e.1 ++ own, ap (λ rs. rs ++ own) e.2 ∙ append_assoc e.0 e.1 own, e.3, Expands-push cs e.1 c own e.4 p)

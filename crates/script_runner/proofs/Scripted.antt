@@ -19,9 +19,12 @@ use Rattle.script_text.specs.declared.cells.Content.TheVariants as content
 use Rattle.script_text.specs.declared.cells.Dated.{Dated}
 use Rattle.script_text.specs.declared.cells.Draft.{Draft}
 use Rattle.script_text.specs.declared.command.Command.{Command}
+use Rattle.script_text.specs.declared.command.Command.TheVariants as command
 use Rattle.script_text.specs.declared.command.Input.TheVariants.{Run}
 use Rattle.script_text.specs.declared.head.Alone.{Alone}
 use Rattle.script_text.specs.declared.head.Alone.TheVariants as alone_word
+use Rattle.script_text.specs.declared.head.OnCluster.{OnCluster}
+use Rattle.script_text.specs.declared.head.OnCluster.TheVariants as on_cluster_word
 use Rattle.script_text.specs.declared.head.OnServer.{OnServer}
 use Rattle.script_text.specs.declared.head.OnServer.TheVariants as server_word
 use Rattle.script_text.specs.declared.head.OnRegion.{OnRegion}
@@ -44,10 +47,10 @@ use Rattle.script_text.specs.Grammar.{is_printable, is_in, known_head, of_comman
 use Rattle.script_text.specs.Heads.{head_of, is_barred, is_performed}
 use Rattle.script_text.specs.Lines.{begins_with}
 use Rattle.script_text.specs.Lists.{all_of, parts_of, scope_of, family_of, repeats_family, are_tables, tables_word, specs_word}
-use Rattle.script_text.specs.Meanings.{cluster_and_one, cluster_and_two, cluster_and_three, some_words, cluster_and_some, alone, on_server, on_region, on_place, on_flight, ship, send, table, show, peer}
+use Rattle.script_text.specs.Meanings.{cluster_alone, cluster_and_one, cluster_and_two, cluster_and_three, some_words, cluster_and_some, alone, on_cluster, on_server, on_region, on_place, on_flight, ship, send, table, show, peer}
 use Rattle.script_text.specs.Puts.{put_words, cluster_and_cells, put}
 use Rattle.script_text.specs.Steps.{◌>>=◌, and_then}
-use Rattle.script_text.specs.Words.{words_of, one_word, two_words, three_words, four_words}
+use Rattle.script_text.specs.Words.{has_word, words_of, one_word, two_words, three_words, four_words}
 use Rattle.script_runner.specs.Served.{is_served}
 
 -- what a reading of several steps says of each
@@ -66,6 +69,10 @@ some-ok (Some y) e x h = cc h
 if-ok : {X : Type 0} (b : Bool) (x : X) (e : Rule) (y : X) → cond b (Ok x) (Err e) ≡ Ok y → (b ≡ true) × (x ≡ y)
 if-ok true x e y h = (refl, cc h)
 if-ok false x e y h = absurd (cc h)
+
+if-err : {X : Type 0} (b : Bool) (e : Rule) (r : Result X Rule) (y : X) → cond b (Err e) r ≡ Ok y → r ≡ Ok y
+if-err true e r y h = absurd (cc h)
+if-err false e r y h = h
 
 if-some : {X : Type 0} (b : Bool) (x y : X) → cond b (Some x) None ≡ Some y → (b ≡ true) × (x ≡ y)
 if-some true x y h = (refl, cc h)
@@ -293,6 +300,16 @@ and-true : (a b : Bool) → a ≡ true → b ≡ true → (a && b) ≡ true
 and-true true b h g = g
 and-true false b h g = absurd (cc h)
 
+cluster-served : (word : OnCluster) (args : List (List ℕ)) (c : Command) → is_performed (head.OnCluster word) ≡ true → on_cluster word args ≡ Ok c → is_served c ≡ true
+unfolding on_cluster
+cluster-served on_cluster_word.Queues args c p h =
+    let s = step-ok (cluster_alone args) _ c h in
+    ap served_in (sym s.2)
+cluster-served on_cluster_word.Regions args c p h =
+    let s = step-ok (cluster_alone args) _ c h in
+    ap served_in (sym s.2)
+cluster-served _ args c p h = absurd (cc p)
+
 server-served : (word : OnServer) (args : List (List ℕ)) (c : Command) → is_performed (head.OnServer word) ≡ true → on_server word args ≡ Ok c → is_served c ≡ true
 unfolding on_server
 server-served server_word.Server args c p h =
@@ -408,12 +425,14 @@ command-served repeated reading made each h =
     ap made_in (sym s.2) ∙ each s.0 s.1
 
 alone-served : (word : Alone) (args : List (List ℕ)) (c : Command) → is_performed (head.Alone word) ≡ true → is_in Run (head.Alone word) ≡ true → alone word args ≡ Ok c → is_served c ≡ true
+unfolding alone
+alone-served alone_word.Status args c p i h = ap served_in (sym (if-err (has_word args) rule.Words (Ok command.Status) c h))
 alone-served alone_word.Divider args c p i h = absurd (cc i)
 alone-served _ args c p i h = absurd (cc p)
 
 meaning-served : (repeated : ℕ) (h : Head) (args : List (List ℕ)) (made : Made) → is_performed h ≡ true → is_in Run h ≡ true → meaning repeated h args ≡ Ok made → made_served made ≡ true
 unfolding meaning
-meaning-served repeated (head.OnCluster word) args made p i h = absurd (cc p)
+meaning-served repeated (head.OnCluster word) args made p i h = command-served repeated _ made (λ c g. cluster-served word args c p g) h
 meaning-served repeated (head.OnServer word) args made p i h = command-served repeated _ made (λ c g. server-served word args c p g) h
 meaning-served repeated (head.OnRegion word) args made p i h = command-served repeated _ made (λ c g. region-served word args c p g) h
 meaning-served repeated (head.OnPeer word) args made p i h = absurd (cc p)

@@ -71,6 +71,9 @@ event-taken (command.Ship c p s) [] e served h = taken-some _ e h (refl, and-tru
 event-taken (command.Ship c p s) (x ∷ []) e served h = deliver-taken x e h
 event-taken (command.Ship c p s) (x ∷ y ∷ []) e served h = taken-only (passes y) _ e h (confirm-taken x)
 event-taken (command.Ship c p s) (x ∷ y ∷ z ∷ rs) e served h = absurd (cc h)
+event-taken (command.Queues c) replies e served h = absurd (cc h)
+event-taken (command.Regions c) replies e served h = absurd (cc h)
+event-taken command.Status replies e served h = absurd (cc h)
 event-taken _ replies e served h = absurd (cc served)
 
 -- and none asks for the state
@@ -78,4 +81,7 @@ pub served-asks : (c : Command) → is_served c ≡ true → asks_state c ≡ fa
 served-asks (command.Single e) served = refl
 served-asks (command.Open c r s) served = refl
 served-asks (command.Ship c p s) served = refl
+served-asks (command.Queues c) served = refl
+served-asks (command.Regions c) served = refl
+served-asks command.Status served = refl
 served-asks _ served = absurd (cc served)

@@ -1,11 +1,16 @@
 // Two clusters and the journal of what happened to them.
-ghost use Rattle.std.specs.Prelude.{◌≡◌, ◌+◌, ◌-◌, ◌^◌, ◌<◌, ◌≤◌, ◌++◌, ◌↔◌, [], ◌∷◌, false, true, length, IfOk, OnOk, OnErr, IsErrOf};
+ghost use Rattle.std.specs.Prelude.{◌≡◌, ◌+◌, ◌-◌, ◌^◌, ◌<◌, ◌≤◌, ◌++◌, ◌↔◌, [], ◌∷◌, false, true, drop, length, IfOk, OnOk, OnErr, IsErrOf};
 ghost use Rattle.rep_model.specs.Built.{is_built};
 ghost use Rattle.rep_model.specs.Words.{is_worded};
-ghost use Rattle.rep_model.specs.Runs.{IsLegal};
+ghost use Rattle.rep_model.specs.Runs.{IsLegal, state_of};
+ghost use Rattle.report_text.specs.Lines.{lines_from};
+ghost use Rattle.script_lines.specs.Views.{view_text};
 
 use rep_model::Machine;
-use rep_types::{Duplicate, Event, Items, Record, Records, Reply};
+use rep_types::{Duplicate, Event, Items, Memory, Record, Records, Reply};
+use report_text::print_lines;
+use script_lines::print_view;
+use script_text::Command;
 use std::alloc::Global;
 use std::marker::Model;
 use thiserror::Error;
@@ -98,5 +103,24 @@ impl Pair {
         };
         self.spent = false;
         Ok(reply)
+    }
+    /// Adds the lines of the records behind the first so many, and what the command shows of the state after them.
+    pub fn print_from(
+        &self,
+        alloc: Global,
+        first: usize,
+        command: &Command,
+        out: &mut Vec<u8>,
+    ) -> Result<(), Memory>
+        requires usable { self.now.spent ≡ false }
+        requires within { first ≤ length self.now.journal }
+        requires room { length self.now.journal < 2 ^ 32 }
+        ensures text { OnOk result (out.new.items ≡ out.old.items ++ (lines_from (first + 1) (drop first self.now.journal)
+            ++ view_text command.now (length self.now.journal) (state_of self.now.journal))) }
+        ensures legal { IsLegal self.now.journal }
+    {
+        let records = self.journal.as_slice();
+        print_lines(first as u64 + 1, &records[first..], out)?;
+        print_view(alloc, command, records.len() as u64, &self.machine, out)
     }
 }

@@ -10,7 +10,6 @@ ghost use Rattle.script_runner.specs.Served.{is_served};
 use crate::perform::perform_all;
 use rep_io::{ReadError, Sink, Source, read_all, write_all};
 use rep_types::{Argv, Status};
-use report_text::print_lines;
 use script_text::{Command, Input, ParseError, parse};
 use std::alloc::Global;
 
@@ -36,11 +35,8 @@ fn run_commands<K: Sink>(alloc: Global, commands: &[Command], out: &mut K) -> St
     ensures write_fault { result ≡ Status.WriteFault → Rose (K.fault_count out.old) (K.fault_count out.new) }
     ensures answers { IsOfCommands result }
 {
-    let Ok(pair) = perform_all(alloc, commands) else {
-        return Status::Memory;
-    };
     let mut text = Vec::new(alloc);
-    if print_lines(pair.journal(), &mut text).is_err() {
+    if perform_all(alloc, commands, &mut text).is_err() {
         return Status::Memory;
     }
     if write_all(out, &text).is_err() {

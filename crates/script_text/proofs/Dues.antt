@@ -11,7 +11,7 @@ use Rattle.script_text.specs.declared.command.Command.{Command}
 use Rattle.script_text.specs.declared.command.Command.TheVariants as command
 use Rattle.script_text.specs.Drains.{numbers, start, drain_event, drain_end}
 use Rattle.script_text.specs.Due.{reply_in, due, Does, ExpandsFrom}
-use Rattle.script_text.specs.Expansion.{asks_state, next_event, GoesOn, Expands}
+use Rattle.script_text.specs.Expansion.{asks_state, next_event, GoesOn, Performs, Expands}
 
 pub due-same : (c : Command) (m : Machine) (rs : List Record) → asks_state c ≡ false → due c m rs ≡ next_event c (map reply_in rs)
 due-same (command.Single e) m rs h = refl
@@ -37,6 +37,10 @@ does : (c : Command) (m : Machine) (before rs : List Record) → asks_state c �
 does c m before [] h g = due-same c m before h ∙ g
 does c m before (r ∷ rs) h g =
     (due-same c m before h ∙ g.0, g.1, does c m (before ++ r ∷ []) rs h (subst (λ (xs : List Reply). GoesOn c xs rs) (sym (replies-push before r)) g.2))
+
+-- all the events of one command
+pub does-performed : (c : Command) (m : Machine) (own : List Record) → asks_state c ≡ false → Performs c own → Does c m [] own
+does-performed c m own h p = does c m [] own h p
 
 abbrev asks_some : List Command → Type 0
 asks_some [] = Unit {0}

@@ -112,8 +112,10 @@ head_of word =
     (option_or (option_map head.Alone (alone_word word))
     (other_word word)))))))
 
--- the program performs the command: these it doesn't yet
+-- the program performs the command; some it doesn't yet
 abbrev pub is_performed : Head → Bool
+is_performed (head.OnCluster on_cluster.Queues) = true
+is_performed (head.OnCluster on_cluster.Regions) = true
 is_performed (head.OnCluster word) = false
 is_performed (head.OnPeer word) = false
 is_performed (head.OnServer on_server.Roll) = false
@@ -131,7 +133,6 @@ is_performed (head.OnRegion on_region.Close) = false
 is_performed (head.OnPlace on_place.Move) = false
 is_performed (head.OnFlight on_flight.Lose) = false
 is_performed (head.Alone alone.Drain) = false
-is_performed (head.Alone alone.Status) = false
 is_performed head.Get = false
 is_performed head.Split = false
 is_performed head.Merge = false

@@ -331,7 +331,8 @@ pub fn is_performed(head: Head) -> bool
     ensures { result ≡ is_performed head }
 {
     match head {
-        Head::OnCluster(_) | Head::OnPeer(_) => false,
+        Head::OnCluster(word) => matches!(word, OnCluster::Queues | OnCluster::Regions),
+        Head::OnPeer(_) => false,
         Head::OnServer(word) => !matches!(
             word,
             OnServer::Roll
@@ -352,7 +353,7 @@ pub fn is_performed(head: Head) -> bool
         ),
         Head::OnPlace(word) => !matches!(word, OnPlace::Move),
         Head::OnFlight(word) => !matches!(word, OnFlight::Lose),
-        Head::Alone(word) => !matches!(word, Alone::Drain | Alone::Status),
+        Head::Alone(word) => !matches!(word, Alone::Drain),
         Head::Get | Head::Split | Head::Merge | Head::Claim => false,
         Head::TransitBegin | Head::Fail | Head::Keep => false,
         _ => true,

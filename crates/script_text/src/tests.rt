@@ -24,7 +24,7 @@ fn fault_of(alloc: Global, input: Input, text: &[u8]) -> u32 {
     }
 }
 
-static FAULTS: [(&[u8], u32); 60] = [
+static FAULTS: [(&[u8], u32); 62] = [
     (b"", 0),
     (b"\n\n", 0),
     (b"server a 1\n\n# a comment\n   # another", 0),
@@ -41,6 +41,8 @@ static FAULTS: [(&[u8], u32); 60] = [
     (b"put a t r\n", 102),
     (b"--\n", 102),
     (b"roll a 1\n", 102),
+    (b"queues a\nregions b\nstatus\ndrain\n", 402),
+    (b"queues c\n", 103),
     (b"server c 1\n", 103),
     (b"server A 1\n", 103),
     (b"server c 0\n", 103),

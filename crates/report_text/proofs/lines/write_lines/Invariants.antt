@@ -3,4 +3,4 @@ use Rattle.report_text.specs.Lines.{lines_from}
 use Rattle.report_text.proofs.lines.write_lines.Given as goal
 
 abbrev pub invariant-loop-made : goal.invariant-loop-made
-invariant-loop-made l = (l.number ≡ l.made-index + 1) × (l.out.items ++ lines_from l.number (drop l.made-index l.journal) ≡ l.initial.out.items ++ lines_from 1 l.journal)
+invariant-loop-made l = (l.number ≡ l.first + l.made-index) × (l.out.items ++ lines_from l.number (drop l.made-index l.records) ≡ l.initial.out.items ++ lines_from l.first l.records)
