@@ -2,9 +2,14 @@
 #![tactic(auto)]
 
 mod laws;
+mod lookup;
 mod parts;
 
+pub use laws::a_refusal_leaves_all;
+pub use lookup::{
+    Seat, families, find_peer, line_at, located, located_number, on_at, region, seat_of,
+    station_at, trace,
+};
 pub use parts::{
     ClusterCore, CoreError, Index, Kept, Line, PeerLine, Sent, Shelf, Station, TableCells, Trace,
 };
-pub use laws::a_refusal_leaves_all;
