@@ -83,7 +83,7 @@ station_found c side stations s (Some at) e stand =
     found : (q : Option Station) → slice_get stations at ≡ q → HasStation c side stations s at
     found (Some st) is =
         let k = station_of c side s st (find (is_server s) side.servers) (subst (λ q. StationAt c side s q (find (is_server s) side.servers)) (here ∙ is) (stand s)) in
-        record { server = k.0; known = k.1; number = server_number s side.servers k.0 k.1; station = st; there = is; found = here ∙ is; stands = k.2 }
+        record { server = k.0; known = k.1; number = server_number s side.servers k.0 k.1; station = st; there = is; first = sym e; found = here ∙ is; stands = k.2 }
     found None is = absurd (taken (is_station s) stations at (sym e) is)
 
 -- ---- tables and regions
