@@ -5,4 +5,5 @@ pub mod Frames
 pub mod Lookups
 pub mod Naming
 pub mod Places
+pub mod Seats
 pub mod Tracing

@@ -7,7 +7,7 @@ mod lookup;
 mod parts;
 mod pending;
 
-pub use accepting::{accept, log_fits};
+pub use accepting::{CurrentLog, accept, current_log, log_fits, mark};
 pub use laws::a_refusal_leaves_all;
 pub use lookup::{
     Seat, families, find_peer, line_at, located, located_number, on_at, region, seat_of,
@@ -16,3 +16,4 @@ pub use lookup::{
 pub use parts::{
     ClusterCore, CoreError, Index, Kept, Line, PeerLine, Sent, Shelf, Station, TableCells, Trace,
 };
+pub use pending::next_id;
