@@ -140,7 +140,7 @@ unfolding meta.given
 some_passes None test h = absurd (false≢true h)
 some_passes (Some x) test h = (x, refl, h)
 
-mapped_some : {X Y : Type 0} (f : X → Y) (o : Option X) (y : Y) → Some y ≡ option_map f o → (x : X) × (o ≡ Some x) × (y ≡ f x)
+pub mapped_some : {X Y : Type 0} (f : X → Y) (o : Option X) (y : Y) → Some y ≡ option_map f o → (x : X) × (o ≡ Some x) × (y ≡ f x)
 mapped_some f None y e = absurd (none-some y (sym e))
 mapped_some f (Some x) y e = (x, refl, same_Some y (f x) e)
 

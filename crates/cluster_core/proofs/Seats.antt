@@ -72,7 +72,7 @@ module _ (c : Cluster) (pair : is_paired c ≡ true) (m : Machine) (reached : Re
   pub seat_lives : k.station.server.live ≡ true
   seat_lives = ap (λ (v : Server). v.live) (same_Some k.station.server lives_there.0 (sym k.station.known ∙ lives_there.1)) ∙ lives_there.2
 
-  server_in : In k.station.server (of c m).servers
+  pub server_in : In k.station.server (of c m).servers
   server_in = found_in (is_server k.on) (of c m).servers k.station.server k.station.known
 
   pub seat_is_open : k.station.server.sealed ≡ false

@@ -1,7 +1,7 @@
 //! The events that write: a put.
 #![tactic(auto)]
 
-mod put;
 mod typed;
+mod writing;
 
-pub use put::put;
+pub use writing::put;

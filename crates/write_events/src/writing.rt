@@ -1,5 +1,5 @@
 // A put: an edit is appended to the log of the server that serves its row.
-ghost use Rattle.std.specs.Prelude.{◌≡◌, ◌+◌, ◌≤◌, ◌<◌, true, false, All, Some, IfOk, MatchResult, length, slice_get};
+ghost use Rattle.std.specs.Prelude.{◌≡◌, ◌+◌, ◌≤◌, ◌<◌, true, false, All, Some, IfOk, MatchResult, length};
 ghost use Rattle.std.specs.List.{list_all};
 ghost use Rattle.rep_types.specs.Edit.{edit_length, repeats};
 ghost use Rattle.rep_types.specs.declared.event.Event.TheVariants as event;
@@ -7,7 +7,7 @@ ghost use Rattle.rep_vault.specs.Contents.{Contents};
 ghost use Rattle.wal_entry.specs.Framed.{HasValue, IsTypedEdit};
 ghost use Rattle.rep_model.specs.State.{of};
 ghost use Rattle.rep_model.specs.Row.{first};
-ghost use Rattle.rep_model.specs.Words.{is_worded, are_cells};
+ghost use Rattle.rep_model.specs.Words.{is_worded};
 ghost use Rattle.rep_model.specs.LogEvents.{put_edit, has_family, put_refusals};
 ghost use Rattle.rep_model.specs.declared.machine.Machine.{Machine};
 ghost use Rattle.cluster_core.specs.Stands.{Stands};
@@ -73,7 +73,10 @@ fn may_put(core: &ClusterCore, table: &Name, row: &Key, cells: &Cells) -> Result
 
 // The edit of a put that isn't refused.
 fn made_edit(alloc: Global, table: &Name, row: &Key, cells: Cells) -> Result<Edit, Memory>
-    requires words { are_cells cells ≡ true }
+    requires some { 0 < length cells }
+    requires few { length cells ≤ 64 }
+    requires distinct { repeats cells ≡ false }
+    requires values { All (λ c. HasValue c.kind) cells }
     requires short { edit_length (put_edit table.now row.now cells) ≤ 8192 }
     ensures made { IfOk result (λ edit. edit ≡ put_edit table.now row.now cells) }
     ensures typed { IfOk result (λ edit. IsTypedEdit edit) }
