@@ -41,3 +41,16 @@ pub mod Fronts
 pub mod FrontPart
 pub mod FrontMoves
 pub mod Cited
+pub mod Numbering
+pub mod Acts
+pub mod ActForms
+pub mod ActsOfLogs
+pub mod ActsOfRegions
+pub mod ActsOfQueues
+pub mod ActsOfPeers
+pub mod RowActs
+pub mod ActSides
+pub mod SeatPart
+pub mod FlightsPart
+pub mod Steady
+pub mod CitedMore
