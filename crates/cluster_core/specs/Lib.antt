@@ -1,3 +1,4 @@
+pub mod Changes
 pub mod Does
 pub mod Entries
 pub mod Logs

@@ -2,9 +2,14 @@
 #![tactic(auto)]
 
 mod laws;
+mod lists;
 mod parts;
+mod puts;
+mod records;
 
+pub use laws::a_refusal_leaves_all;
 pub use parts::{
     ClusterCore, CoreError, Index, Kept, Line, PeerLine, Sent, Shelf, Station, TableCells, Trace,
 };
-pub use laws::a_refusal_leaves_all;
+pub use puts::{Stored, put_records};
+pub use records::{barriers_change, peer_change, region_change, server_change, table_change};
