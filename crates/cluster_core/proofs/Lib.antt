@@ -3,4 +3,7 @@ pub mod Commas
 pub mod Finds
 pub mod Frames
 pub mod Keys
+pub mod Lookups
 pub mod RecordsPut
+pub mod Simple
+pub mod Staying
