@@ -1,8 +1,14 @@
 pub mod Absorbed
 pub mod Answering
+pub mod Commas
 pub mod Finds
 pub mod Frames
+pub mod Keys
+pub mod Lookups
 pub mod Places
+pub mod RecordsPut
 pub mod Shelving
+pub mod Simple
+pub mod Staying
 pub mod Tracing
 pub mod Writing

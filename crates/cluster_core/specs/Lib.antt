@@ -1,7 +1,9 @@
 pub mod Absorbing
+pub mod Changes
 pub mod Does
 pub mod Entries
 pub mod Logs
+pub mod Lookups
 pub mod Memory
 pub mod Orderly
 pub mod Stands

@@ -3,9 +3,19 @@
 
 mod index;
 mod laws;
+mod lists;
+mod lookup;
 mod parts;
+mod puts;
+mod records;
 
 pub use laws::a_refusal_leaves_all;
+pub use lookup::{
+    Seat, families, find_peer, line_at, located, located_number, on_at, region, seat_of,
+    station_at, trace,
+};
 pub use parts::{
     ClusterCore, CoreError, Index, Kept, Line, PeerLine, Sent, Shelf, Station, TableCells, Trace,
 };
+pub use puts::{Stored, put_records};
+pub use records::{barriers_change, peer_change, region_change, server_change, table_change};

@@ -35,7 +35,7 @@ out_number : (k : ℕ) (o : Option ℕ) → is_out k o ≡ true → o ≡ Some k
 out_number k None h = absurd (false≢true h)
 out_number k (Some f) h = ap (λ n. Some n) (eqb-true f k h)
 
-given_is : {X Y : Type 0} (o : Option X) (none : Y) (some : X → Y) (x : X) → o ≡ Some x → given o none some ≡ some x
+pub given_is : {X Y : Type 0} (o : Option X) (none : Y) (some : X → Y) (x : X) → o ≡ Some x → given o none some ≡ some x
 unfolding given
 given_is None none some x e = absurd (none-some x e)
 given_is (Some y) none some x e = ap some (same_Some y x e)
