@@ -1,4 +1,4 @@
--- What memory has of entries stands for the state after a change of what is pending, and after commits.
+-- What memory has of entries stands for the state after commits, and after pending entries are dropped.
 use Rattle.std.proofs.Common.{ℕ, ◌+◌, ◌-◌, ◌<◌, ◌≤◌, ◌≡◌, ◌==◌, Bool, true, false, cond, List, [], ◌∷◌, ◌++◌, map, find, length, Option, Some, refl, ap, sym, ◌∙◌, subst, arith, eqb-true, eq-eqb, append_assoc}
 use Rattle.std.specs.Prelude.{MatchOption}
 use Rattle.std.proofs.lemmas.Bool.{cond_both, false≢true}
@@ -50,21 +50,9 @@ room_for_front from k a b n e f h = omega arith
 fits_at : (side : Side) (srv : Server) → IsOrderly side → find (is_server srv.number) side.servers ≡ Some srv → FitsLog side.commits srv
 fits_at side srv o there = All_found (FitsLog side.commits) (is_server srv.number) side.servers srv there o.fits
 
--- ---- one more is pending
-
-pub pended : (old new : Index) (side : Side) (srv next : Server) (p : Pending) (region : ℕ) → find (is_server srv.number) side.servers ≡ Some srv → next.number ≡ srv.number → next.pending ≡ srv.pending ++ p ∷ []
-    → p.region.number ≡ region → IsPlaced side.regions srv.number region → IsOrderly side → IndexStands old side
-    → new.traces ≡ change_at pended_trace (region - 1) old.traces → new.shelves ≡ old.shelves → new.cells ≡ old.cells → IndexStands new (standing_so next side)
-pended old new side srv next p region there same now is placed o k t s c =
-    let found : find (is_server next.number) side.servers ≡ Some srv = ap (λ n. find (is_server n) side.servers) same ∙ there in
-    let room : pending_count p.region.number srv.pending + 1 < 18446744073709551616 =
-    room_for_one (pending_count p.region.number srv.pending) (pending_length srv.pending) (commits_length (log_commits srv.number srv.log side.commits)) (count_fits p.region.number srv.pending) (fits_at side srv o there) in
-    record {
-      traces = t ∙ (ap (change_at pended_trace (region - 1)) k.traces ∙ (ap (λ r. change_at pended_trace (r - 1) (map (trace_of side.commits side.servers) side.regions)) (sym is)
-          ∙ traces_pended side.commits side.servers side.regions next.number srv next p (sym same) refl found now room o.numbered (subst (λ n. IsPlaced side.regions n p.region.number) (sym same) (subst (λ r. IsPlaced side.regions srv.number r) (sym is) placed))));
-      shelves = s ∙ (k.shelves ∙ shelves_same side.commits side.servers next.number srv next (sym same) refl found);
-      cells = c ∙ k.cells;
-    }
+-- no region has so many pending entries that one more isn't counted
+pub pending_room : (side : Side) (srv : Server) (r : ℕ) → IsOrderly side → find (is_server srv.number) side.servers ≡ Some srv → pending_count r srv.pending + 1 < 18446744073709551616
+pending_room side srv r o there = room_for_one (pending_count r srv.pending) (pending_length srv.pending) (commits_length (log_commits srv.number srv.log side.commits)) (count_fits r srv.pending) (fits_at side srv o there)
 
 -- ---- commits
 

@@ -1,4 +1,5 @@
 pub mod Absorbing
+pub mod Accepting
 pub mod Changes
 pub mod Does
 pub mod Entries
