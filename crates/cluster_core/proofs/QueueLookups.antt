@@ -21,7 +21,8 @@ use Rattle.cluster_core.specs.declared.parts.Station.{Station}
 use Rattle.cluster_core.specs.Entries.{server_commits}
 use Rattle.cluster_core.specs.Memory.{peer_line, queue_of_line, shelf_of, kept_after}
 use Rattle.cluster_core.specs.Stands.{StationAt, is_station}
-use Rattle.cluster_core.specs.Lines.{is_peer_line, added, is_line, lives, is_shelf, shelf_length}
+use Rattle.cluster_core.specs.Lookups.{is_peer_line, is_line}
+use Rattle.cluster_core.specs.Lines.{added, lives, is_shelf, shelf_length}
 use Rattle.cluster_core.proofs.Finds.{find_map}
 
 -- the peer, if it was added and isn't removed

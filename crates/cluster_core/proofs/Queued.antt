@@ -41,7 +41,8 @@ use Rattle.cluster_core.specs.Texts.RecordKey.{OfTable, OfRegion, OfBarriers, Of
 use Rattle.cluster_core.specs.Memory.{IndexStands, peer_line, queue_of_line, shelf_of, IsAt}
 use Rattle.cluster_core.specs.Stands.{StationAt, RecordAt, RecordsStand, QueuesStand, Stands}
 use Rattle.cluster_core.specs.Does.{Reached}
-use Rattle.cluster_core.specs.Lines.{is_line, shelf_length, flies, lands}
+use Rattle.cluster_core.specs.Lookups.{is_line}
+use Rattle.cluster_core.specs.Lines.{shelf_length, flies, lands}
 use Rattle.cluster_core.proofs.QueueLookups.{line_is, shelf_length_is}
 
 -- ---- facts of states that were reached

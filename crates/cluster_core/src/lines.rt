@@ -1,26 +1,22 @@
 // Peers, queues, servers and shelves in memory, by number.
-ghost use Rattle.std.specs.Prelude.{◌≡◌, ◌+◌, find, position, min, MatchOption, Some};
+ghost use Rattle.std.specs.Prelude.{◌≡◌, ◌+◌, find, min, MatchOption, Some};
 ghost use Rattle.std.specs.Option.{option_copied};
 ghost use Rattle.rep_model.specs.Keyed.{replace};
 ghost use Rattle.cluster_core.specs.Stands.{is_station};
-ghost use Rattle.cluster_core.specs.Lines.{is_peer_line, added, is_line, lives, is_shelf, shelf_length, flies, lands};
+ghost use Rattle.cluster_core.specs.Lookups.{is_line};
+ghost use Rattle.cluster_core.specs.Lines.{added, lives, is_shelf, shelf_length, flies, lands};
 
+use crate::lookup::{find_peer, line_at};
 use crate::{Line, PeerLine, Shelf, Station};
 use rep_model::Standing;
 use rep_types::{Items, PeerId, ServerId};
-
-pub fn find_peer_line(peers: &Items<PeerLine>, number: PeerId) -> Option<&PeerLine>
-    ensures { option_copied result ≡ find (is_peer_line number) peers.now }
-{
-    peers.as_slice().iter().find(|peer| peer.number == number)
-}
 
 /// The peer, if it was added and isn't removed.
 #[tactic(auto, unfolding(rep_model::specs::Keyed::given))]
 pub fn added_peer(peers: &Items<PeerLine>, number: PeerId) -> Option<&PeerLine>
     ensures { option_copied result ≡ added number peers.now }
 {
-    match find_peer_line(peers, number) {
+    match find_peer(peers, number) {
         Some(peer) => match peer.standing {
             Standing::Enabled => Some(peer),
             Standing::Disabled => Some(peer),
@@ -39,21 +35,12 @@ pub fn find_line(lines: &Items<Line>, peer: PeerId, server: ServerId) -> Option<
         .find(|line| line.peer == peer && line.server == server)
 }
 
-fn line_place(lines: &Items<Line>, peer: PeerId, server: ServerId) -> Option<usize>
-    ensures { result ≡ position (is_line peer server) lines.now }
-{
-    lines
-        .as_slice()
-        .iter()
-        .position(|line| line.peer == peer && line.server == server)
-}
-
 /// This flight of the queue is outstanding.
 pub fn set_out(lines: &mut Items<Line>, peer: PeerId, server: ServerId, flight: u32)
     ensures { MatchOption (find (is_line peer server) lines.old) (lines.new ≡ lines.old) (λ l.
         lines.new ≡ replace (is_line peer server) (flies (Some flight) l) lines.old) }
 {
-    if let Some(at) = line_place(lines, peer, server) {
+    if let Some(at) = line_at(lines, peer, server) {
         lines.at_mut(at).flight = Some(flight);
     }
 }
@@ -71,14 +58,14 @@ pub fn set_landed(lines: &mut Items<Line>, peer: PeerId, server: ServerId, entri
     ensures { MatchOption (find (is_line peer server) lines.old) (lines.new ≡ lines.old) (λ l.
         lines.new ≡ replace (is_line peer server) (lands entries end l) lines.old) }
 {
-    if let Some(at) = line_place(lines, peer, server) {
+    if let Some(at) = line_at(lines, peer, server) {
         let line = lines.at_mut(at);
         line.flight = None;
         line.at = later(line.at, entries, end);
     }
 }
 
-pub fn find_station(stations: &Items<Station>, server: ServerId) -> Option<&Station>
+fn find_station(stations: &Items<Station>, server: ServerId) -> Option<&Station>
     ensures { option_copied result ≡ find (is_station server) stations.now }
 {
     stations

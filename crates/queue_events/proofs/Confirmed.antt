@@ -37,7 +37,8 @@ use Rattle.cluster_core.specs.declared.parts.Station.{Station}
 use Rattle.cluster_core.specs.Memory.{peer_line, queue_of_line}
 use Rattle.cluster_core.specs.Stands.{Stands}
 use Rattle.cluster_core.specs.Does.{Reached, sent_of, Flies, FliesOr}
-use Rattle.cluster_core.specs.Lines.{is_line, added, lives, shelf_length, lands}
+use Rattle.cluster_core.specs.Lookups.{is_line}
+use Rattle.cluster_core.specs.Lines.{added, lives, shelf_length, lands}
 use Rattle.cluster_core.proofs.Answering.{refused, let_through}
 use Rattle.cluster_core.proofs.QueueLookups.{added_one, added_is, line_is, lives_is}
 use Rattle.cluster_core.proofs.Queued.{requeued, landed_stands}

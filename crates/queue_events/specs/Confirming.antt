@@ -10,7 +10,8 @@ use Rattle.rep_model.specs.QueueEvents.{is_out}
 use Rattle.cluster_core.specs.declared.parts.ClusterCore.{ClusterCore}
 use Rattle.cluster_core.specs.declared.parts.Line.{Line}
 use Rattle.cluster_core.specs.declared.parts.Sent.{Sent}
-use Rattle.cluster_core.specs.Lines.{is_line, added, lives, shelf_length, lands}
+use Rattle.cluster_core.specs.Lookups.{is_line}
+use Rattle.cluster_core.specs.Lines.{added, lives, shelf_length, lands}
 use Rattle.queue_events.specs.Flights.{line_out, line_owner}
 
 abbrev pub line_of : Option Sent → ClusterCore → Option Line

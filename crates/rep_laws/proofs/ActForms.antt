@@ -1,5 +1,5 @@
 -- What the forms of rows make of acts, and the acts that many events share.
-use Rattle.std.proofs.Common.{ℕ, ◌+◌, ◌≤◌, ◌≡◌, ◌==◌, inl, inr, Bool, true, false, List, [], ◌∷◌, ◌++◌, length, find, Option, Some, None, refl, ap, sym, ◌∙◌, subst, arith, eqb-true, eq-eqb}
+use Rattle.std.proofs.Common.{ℕ, ◌+◌, ◌≤◌, ◌≡◌, inl, inr, Bool, true, false, List, [], ◌∷◌, ◌++◌, Option, Some, None, refl, ap, sym, ◌∙◌, subst, arith, eqb-true, eq-eqb}
 use Rattle.std.specs.List.{AllByRecursion}
 use Rattle.std.proofs.lemmas.Bool.{ltb-false, false≢true}
 use Rattle.std.proofs.lemmas.Option.{none-some, same_Some}
@@ -11,7 +11,7 @@ use Rattle.rep_types.specs.declared.state.PlaceOf.{PlaceOf}
 use Rattle.rep_types.specs.declared.state.PlaceOf.TheVariants as place
 use Rattle.wal_entry.specs.Length.{frame_length}
 use Rattle.rep_model.specs.Keyed.{given}
-use Rattle.rep_model.specs.State.{of, other, is_server, is_region, server_of, region_of, queue_of, with_server, with_queue}
+use Rattle.rep_model.specs.State.{of, other, is_server, is_region, server_of, region_of, queue_of}
 use Rattle.rep_model.specs.Words.{is_paired}
 use Rattle.rep_model.specs.Commits.{log_commits}
 use Rattle.rep_model.specs.Copies.{copied, make_copy}
@@ -25,13 +25,11 @@ use Rattle.rep_model.specs.declared.machine.Machine.{Machine}
 use Rattle.rep_model.specs.declared.machine.Pending.{Pending}
 use Rattle.rep_model.specs.declared.machine.Server.{Server}
 use Rattle.rep_model.specs.declared.machine.Hosted.{Hosted}
-use Rattle.rep_model.specs.declared.machine.Region.{Region}
-use Rattle.rep_model.specs.declared.machine.Queue.{Queue}
-use Rattle.rep_laws.proofs.Lists.{In, all_in, found_in, found_passes, All_append, All_weaker}
+use Rattle.rep_laws.proofs.Lists.{all_in, found_in, found_passes, All_append, All_weaker}
 use Rattle.rep_laws.proofs.Sides.{other_paired}
 use Rattle.rep_laws.proofs.Steps.{none_holds, given_some}
 use Rattle.rep_laws.proofs.DoesQueues.{queue_numbers}
-use Rattle.rep_laws.proofs.Acts.{works_at, is_at, Served, IsDue, Committing, Act, Acts, Nothing, act, LinkStands, EntryPends, EntriesCommit, QueueStands}
+use Rattle.rep_laws.proofs.Acts.{works_at, Served, IsDue, Acts, Nothing, act, LinkStands, EntryPends, EntriesCommit, QueueStands}
 
 -- what the row leaves is reached by acts
 pub record Acted (m : Machine) (row : Row) : Type 0 where

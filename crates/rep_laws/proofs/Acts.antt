@@ -1,5 +1,5 @@
 -- What an event does to servers, regions, commits, peers, queues, flights and tickets, told more exactly than by moves.
-use Rattle.std.proofs.Common.{ℕ, ◌+◌, ◌-◌, ◌≤◌, ◌≡◌, ◌==◌, ◌⊎◌, Bool, true, false, List, [], ◌∷◌, ◌++◌, length, map, find, Some, None}
+use Rattle.std.proofs.Common.{ℕ, ◌+◌, ◌≤◌, ◌≡◌, ◌==◌, ◌⊎◌, Bool, true, false, List, [], ◌∷◌, ◌++◌, length, map, Some, None}
 use Rattle.std.specs.List.{AllByRecursion}
 use Rattle.rep_types.specs.declared.ids.Cluster.{Cluster}
 use Rattle.rep_types.specs.declared.entry.EntryId.{EntryId}
@@ -13,7 +13,7 @@ use Rattle.rep_model.specs.Words.{is_paired}
 use Rattle.rep_model.specs.Changes.{takes_pending}
 use Rattle.rep_model.specs.Commits.{log_commits, settled}
 use Rattle.rep_model.specs.Frames.{commits_length, pending_length}
-use Rattle.rep_model.specs.Peers.{is_removed}
+use Rattle.rep_model.specs.Peers.{is_removed, is_synchronous}
 use Rattle.rep_model.specs.Places.{after_death, used}
 use Rattle.rep_model.specs.Tickets.{with_ticket, doubt_pending, tell_waiting}
 use Rattle.rep_model.specs.LogEvents.{server_added}
@@ -120,9 +120,9 @@ pub data Act (m : Machine) : Machine → Type 0 where
   PutPends : (c : Cluster) → is_paired c ≡ true → (v : Server) (x : Pending) → Served c m v x.region → used c v m + frame_length x.kind ≤ 65536 → x.ticket ≡ Some (length m.tickets + 1) → Act m (with_ticket c (with_server c (takes_pending x true v) m))
   EntriesCommit : (c : Cluster) → is_paired c ≡ true → (v new : Server) (xs : List Pending) (ts : List Ticket) → Committing c m v new xs ts → Act m (settled c v.number v.log xs (with_server c new (record m { tickets = ts })))
   PeerJoins : (c : Cluster) → is_paired c ≡ true → (p : ℕ) (kind : Kind) (tables : List (List ℕ)) → peer_at p (of c m).peers ≡ None → Act m (peer_added c p kind tables m)
-  PeerStands : (c : Cluster) → is_paired c ≡ true → (x new : Peer) → peer_at new.number (of c m).peers ≡ Some x → is_removed new.standing ≡ is_removed x.standing → Act m (with_peer c new m)
-  -- a peer is removed, and its queues go
-  PeerLeaves : (c : Cluster) → is_paired c ≡ true → (x : Peer) → peer_at x.number (of c m).peers ≡ Some x
+  PeerStands : (c : Cluster) → is_paired c ≡ true → (x new : Peer) → peer_at new.number (of c m).peers ≡ Some x → is_removed new.standing ≡ is_removed x.standing → (is_synchronous new.kind ≡ true → is_synchronous x.kind ≡ true) → Act m (with_peer c new m)
+  -- a peer that isn't synchronous is removed, and its queues go
+  PeerLeaves : (c : Cluster) → is_paired c ≡ true → (x : Peer) → peer_at x.number (of c m).peers ≡ Some x → is_synchronous x.kind ≡ false
       → Act m (with c (record (of c m) { peers = replace (is_peer x.number) (record x { standing = standing.Removed }) (of c m).peers; queues = other_queues x.number (of c m).queues }) m)
   PeersRestart : (c : Cluster) → is_paired c ≡ true → Act m (with c (restarted_side (of c m)) m)
   QueueStands : (c : Cluster) → is_paired c ≡ true → (q new : Queue) → queue_of c new.peer new.server m ≡ Some q → Act m (with_queue c new m)

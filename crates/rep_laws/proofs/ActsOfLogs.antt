@@ -1,5 +1,5 @@
 -- Which acts the events of servers and logs are: server, put, sync, roll, crash, seal.
-use Rattle.std.proofs.Common.{ℕ, zero, suc, ◌+◌, ◌≤◌, ◌≡◌, ◌==◌, ◌&&◌, inl, inr, Bool, true, false, not, min, List, [], ◌∷◌, length, take, Some, None, is_some, is_none, refl, ap, sym, ◌∙◌, subst, arith}
+use Rattle.std.proofs.Common.{ℕ, zero, suc, ◌+◌, ◌≤◌, ◌≡◌, ◌==◌, ◌&&◌, inl, inr, Bool, true, false, not, min, List, [], ◌∷◌, length, take, Some, None, is_some, is_none, refl, arith}
 use Rattle.std.specs.List.{AllByRecursion}
 use Rattle.std.proofs.lemmas.Bool.{not-false, true≢false}
 use Rattle.std.proofs.lemmas.List.Sums.{sum_by-cons}

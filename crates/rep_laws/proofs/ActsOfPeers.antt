@@ -1,13 +1,12 @@
 -- Which acts the events of peers, of changes of state and of promotions are, and a mirror.
-use Rattle.std.proofs.Common.{ℕ, ◌+◌, ◌≡◌, ◌==◌, ◌&&◌, ◌||◌, Bool, true, false, not, List, [], ◌∷◌, length, take, map, filter, Some, None, is_some, is_none, if◌then◌else◌, refl, ap, sym, ◌∙◌, subst}
-use Rattle.std.proofs.lemmas.Bool.{cond_both}
+use Rattle.std.proofs.Common.{ℕ, ◌≡◌, ◌==◌, ◌&&◌, ◌||◌, Bool, true, false, not, List, [], ◌∷◌, Some, None, is_some, is_none, if◌then◌else◌, refl, ap, sym, ◌∙◌, subst}
+use Rattle.std.proofs.lemmas.Bool.{cond_both, false≢true}
 use Rattle.std.proofs.lemmas.Option.{none-some, same_Some}
 use Rattle.rep_types.specs.declared.ids.Cluster.{Cluster}
 use Rattle.rep_types.specs.declared.ids.Cluster.TheVariants as cluster
 use Rattle.rep_types.specs.declared.state.Kind.{Kind}
 use Rattle.rep_types.specs.declared.state.SyncState.{SyncState}
 use Rattle.rep_types.specs.declared.state.SyncState.TheVariants as state
-use Rattle.rep_types.specs.declared.state.Phase.{Phase}
 use Rattle.rep_types.specs.declared.state.Phase.TheVariants as phase
 use Rattle.rep_types.specs.declared.state.Call.TheVariants as call
 use Rattle.rep_types.specs.declared.refusal.Needer.TheVariants as needer
@@ -16,7 +15,7 @@ use Rattle.rep_types.specs.declared.reply.Reply.{Reply}
 use Rattle.rep_model.specs.Keyed.{given, if_some, replace}
 use Rattle.rep_model.specs.State.{of, with, other, is_peer, server_of, with_peer, with_link}
 use Rattle.rep_model.specs.Words.{is_paired}
-use Rattle.rep_model.specs.Copies.{unoffered, lowest_copy, with_copy, without_copy}
+use Rattle.rep_model.specs.Copies.{lowest_copy}
 use Rattle.rep_model.specs.Peers.{is_serial, is_synchronous, is_removed, is_active, is_standby, is_idle, peer_of}
 use Rattle.rep_model.specs.Tickets.{tell_waiting}
 use Rattle.rep_model.specs.LogEvents.{live_refusals, log_of, kept_of}
@@ -24,7 +23,6 @@ use Rattle.rep_model.specs.PeerEvents.{peer_refusals, peer_row, enable_row, disa
 use Rattle.rep_model.specs.PromotionEvents.{is_replaying, kept_entries, promote_begin_row, replay_row, promote_end_row}
 use Rattle.rep_model.specs.Row.{site, run_sites, fault_among}
 use Rattle.rep_model.specs.declared.machine.Machine.{Machine}
-use Rattle.rep_model.specs.declared.machine.Side.{Side}
 use Rattle.rep_model.specs.declared.machine.Peer.{Peer}
 use Rattle.rep_model.specs.declared.machine.Link.{Link}
 use Rattle.rep_model.specs.declared.machine.RemoteCopy.{RemoteCopy}
@@ -37,10 +35,10 @@ use Rattle.rep_laws.proofs.Flow.{peer_at}
 use Rattle.rep_laws.proofs.SerialPart.{found_number}
 use Rattle.rep_laws.proofs.Sides.{other_paired, tickets_with}
 use Rattle.rep_laws.proofs.Moves.{other_queues, replayed}
-use Rattle.rep_laws.proofs.Steps.{not_some, not_none}
+use Rattle.rep_laws.proofs.Steps.{not_some, not_none, if_some_false}
 use Rattle.rep_laws.proofs.DoesQueues.{given_is}
 use Rattle.rep_laws.proofs.DoesPeers.{peer_there, peer_here, is_nothing}
-use Rattle.rep_laws.proofs.Acts.{Act, Acts, Nothing, act, acts_then, LinkStands, TicketsEnd, PeerJoins, PeerStands, PeerLeaves, PeersRestart}
+use Rattle.rep_laws.proofs.Acts.{Acts, Nothing, act, acts_then, LinkStands, TicketsEnd, PeerJoins, PeerStands, PeerLeaves, PeersRestart}
 use Rattle.rep_laws.proofs.ActForms.{Acted, first_acted, fault_acted, simple_acted, given_acted, still_acted, given_acts}
 
 -- a cluster's link stands as said
@@ -63,7 +61,7 @@ peer_stands c p m x e = by_found (peer_at p (of c m).peers) e
     by_found (Some y) q = cond_both (is_removed y.standing) None (Some y) (λ w. w ≡ Some x → is_removed x.standing ≡ false) (λ _ r. absurd (none-some x r)) (λ f r. sym (ap (λ (z : Peer). is_removed z.standing) (same_Some y x r)) ∙ f) q
 
 standing_acts : (c : Cluster) → is_paired c ≡ true → (p : ℕ) (to : Standing) (m : Machine) → is_removed to ≡ false → Acts m (given (peer_of c p m) m (λ x. with_peer c (record x { standing = to }) m))
-standing_acts c pair p to m stays = given_acts (peer_of c p m) m _ (λ x e. act (PeerStands c pair x (record x { standing = to }) (peer_here c p m x e) (stays ∙ sym (peer_stands c p m x e))))
+standing_acts c pair p to m stays = given_acts (peer_of c p m) m _ (λ x e. act (PeerStands c pair x (record x { standing = to }) (peer_here c p m x e) (stays ∙ sym (peer_stands c p m x e)) (λ h. h)))
 
 pub enable_acted : (c : Cluster) → is_paired c ≡ true → (p : ℕ) (said : Reply) (m : Machine) → Acted m (enable_row c p said m)
 unfolding enable_row
@@ -83,23 +81,23 @@ leaves_is cluster.A y p m = refl
 leaves_is cluster.B y p m = refl
 leaves_is cluster.C y p m = refl
 
-remove_acts : (c : Cluster) → is_paired c ≡ true → (p : ℕ) (m : Machine) (x : Peer) → peer_of c p m ≡ Some x
+remove_acts : (c : Cluster) → is_paired c ≡ true → (p : ℕ) (m : Machine) (x : Peer) → peer_of c p m ≡ Some x → is_synchronous x.kind ≡ false
     → Acts m (let n = given (peer_of c p m) m (λ y. with_peer c (record y { standing = standing.Removed }) m) in with c (record (of c n) { queues = other_queues p (of c n).queues }) n)
-remove_acts c pair p m x e =
+remove_acts c pair p m x e plain =
     let y : Peer = record x { standing = standing.Removed } in
     let number : x.number ≡ p = found_number p (of c m).peers x (peer_there c p m x e) in
     subst (λ (n : Machine). Acts m (with c (record (of c n) { queues = other_queues p (of c n).queues }) n)) (sym (given_is (peer_of c p m) m (λ (z : Peer). with_peer c (record z { standing = standing.Removed }) m) x e))
-    (subst (Acts m) (leaves_is c y p m) (subst (λ k. Acts m (with c (record (of c m) { peers = replace (is_peer x.number) y (of c m).peers; queues = other_queues k (of c m).queues }) m)) number (act (PeerLeaves c pair x (peer_here c p m x e)))))
+    (subst (Acts m) (leaves_is c y p m) (subst (λ k. Acts m (with c (record (of c m) { peers = replace (is_peer x.number) y (of c m).peers; queues = other_queues k (of c m).queues }) m)) number (act (PeerLeaves c pair x (peer_here c p m x e) plain))))
 
 pub remove_acted : (c : Cluster) → is_paired c ≡ true → (p : ℕ) (said : Reply) (m : Machine) → Acted m (remove_row c p said m)
 unfolding remove_row
 remove_acted c pair p said m = simple_acted ((is_none (peer_of c p m), refusal.NoPeer) ∷ (of_kind is_synchronous c p m, refusal.IsSync) ∷ []) (site c call.Put ∷ []) said
-    (λ none. let x = not_none (peer_of c p m) none.0 in record { acts = remove_acts c pair p m x.0 x.1 })
+    (λ none. let x = not_none (peer_of c p m) none.0 in record { acts = remove_acts c pair p m x.0 x.1 (if_some_false (peer_of c p m) (λ (y : Peer). is_synchronous y.kind) x.0 x.1 none.1.0) })
 
 pub make_serial_acted : (c : Cluster) → is_paired c ≡ true → (p : ℕ) (said : Reply) (m : Machine) → Acted m (make_serial_row c p said m)
 unfolding make_serial_row
 make_serial_acted c pair p said m = simple_acted ((is_none (peer_of c p m), refusal.NoPeer) ∷ (of_kind is_synchronous c p m, refusal.IsSync) ∷ (of_kind is_serial c p m, refusal.IsSerial) ∷ []) (site c call.Put ∷ []) said
-    (λ _. record { acts = given_acts (peer_of c p m) m _ (λ x e. act (PeerStands c pair x _ (peer_here c p m x e) refl)) })
+    (λ _. record { acts = given_acts (peer_of c p m) m _ (λ x e. act (PeerStands c pair x _ (peer_here c p m x e) refl (λ h. absurd (false≢true h)))) })
 
 -- mirror and sweepremote
 

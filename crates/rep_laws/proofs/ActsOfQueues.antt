@@ -1,6 +1,5 @@
 -- Which acts the events of queues and flights are: send, deliver, lose, confirm, claim.
-use Rattle.std.proofs.Common.{ℕ, ◌+◌, ◌≤◌, ◌≡◌, ◌==◌, ◌&&◌, Bool, true, not, List, [], ◌∷◌, find, Option, Some, None, is_some, is_none, if◌then◌else◌, refl, ap, sym, ◌∙◌}
-use Rattle.std.specs.List.{AllByRecursion}
+use Rattle.std.proofs.Common.{ℕ, ◌+◌, ◌≤◌, ◌≡◌, ◌==◌, ◌&&◌, Bool, true, not, List, [], ◌∷◌, find, Option, Some, None, is_none, if◌then◌else◌, refl}
 use Rattle.std.proofs.lemmas.Bool.{cond_both}
 use Rattle.rep_types.specs.declared.ids.Cluster.{Cluster}
 use Rattle.rep_types.specs.declared.entry.EntryKind.TheVariants as kind
@@ -12,7 +11,7 @@ use Rattle.rep_types.specs.declared.reply.Reply.{Reply}
 use Rattle.rep_types.specs.declared.reply.Reply.TheVariants as reply
 use Rattle.wal_entry.specs.Length.{frame_length}
 use Rattle.rep_model.specs.Keyed.{given, if_some, replace}
-use Rattle.rep_model.specs.State.{of, other, is_peer, is_flight, server_of, flight_of, queue_of, with_peer}
+use Rattle.rep_model.specs.State.{of, other, is_peer, is_flight, server_of, flight_of, queue_of}
 use Rattle.rep_model.specs.Words.{is_paired}
 use Rattle.rep_model.specs.Peers.{is_standby, peer_of}
 use Rattle.rep_model.specs.Places.{Seat, seat, used, lacks_room, located_number, capped}
@@ -31,7 +30,7 @@ use Rattle.rep_laws.proofs.SerialPart.{found_again}
 use Rattle.rep_laws.proofs.Sides.{other_paired}
 use Rattle.rep_laws.proofs.Steps.{not_none}
 use Rattle.rep_laws.proofs.DoesQueues.{AllPaired}
-use Rattle.rep_laws.proofs.Acts.{Served, Act, Acts, Nothing, act, acts_then, PeerStands, QueueStands, FlightJoins, FlightStands}
+use Rattle.rep_laws.proofs.Acts.{Served, Acts, Nothing, act, acts_then, PeerStands, QueueStands, FlightJoins, FlightStands}
 use Rattle.rep_laws.proofs.ActForms.{Acted, unless_acted, first_acted, fault_acted, simple_acted, given_acted, still_acted, given_acts, flown_acts, seat_served, has_room, broken_acts, synced_one}
 
 pub send_acted : (c : Cluster) → is_paired c ≡ true → (p s n : ℕ) (said : Reply) (m : Machine) → Acted m (send_row c p s n said m)
@@ -117,7 +116,7 @@ lose_acted k said m pairs =
     (λ _. given_acted (flight_of k m) still_acted (λ f e. record { acts = flown_acts f.cluster (All_found _ (is_flight k) m.flights f e pairs) f.peer f.server None m }))
 
 recorded_acts : (c : Cluster) → is_paired c ≡ true → (p : ℕ) (entries : List Commit) (m : Machine) → Acts m (recorded c p entries m)
-recorded_acts c pair p entries m = given_acts (find (is_peer p) (of c m).peers) m _ (λ x e. act (PeerStands c pair x _ (found_again p (of c m).peers x e) refl))
+recorded_acts c pair p entries m = given_acts (find (is_peer p) (of c m).peers) m _ (λ x e. act (PeerStands c pair x _ (found_again p (of c m).peers x e) refl (λ h. h)))
 
 pub confirm_acted : (k : ℕ) (said : Reply) (m : Machine) → AllPaired m.flights → Acted m (confirm_row k said m)
 unfolding confirm_row

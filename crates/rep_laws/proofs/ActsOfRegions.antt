@@ -1,8 +1,8 @@
 -- Which acts the events of tables and regions are: table, openbegin, openend, closebegin, closeend, recover, flush, compact, split, merge, sweep.
-use Rattle.std.proofs.Common.{ℕ, suc, ◌+◌, ◌≤◌, ◌≡◌, ◌==◌, ◌&&◌, ◌||◌, ◌⊎◌, inl, inr, Bool, true, false, not, List, [], ◌∷◌, ◌++◌, length, find, Option, Some, None, is_some, is_none, if◌then◌else◌, refl, ap, sym, ◌∙◌, subst, arith, eqb-true, eq-eqb, ne_eqb}
+use Rattle.std.proofs.Common.{ℕ, suc, ◌+◌, ◌≤◌, ◌≡◌, ◌||◌, inl, inr, Bool, true, false, not, List, [], ◌∷◌, ◌++◌, length, find, Option, Some, None, is_some, is_none, if◌then◌else◌, refl, ap, sym, ◌∙◌, subst, arith, eqb-true, eq-eqb, ne_eqb}
 use Rattle.std.specs.List.{AllByRecursion}
-use Rattle.std.proofs.lemmas.Bool.{cond_both, not-false, false≢true, cases_eq}
-use Rattle.std.proofs.lemmas.Option.{none-some, same_Some}
+use Rattle.std.proofs.lemmas.Bool.{not-false, false≢true, cases_eq}
+use Rattle.std.proofs.lemmas.Option.{same_Some}
 use Rattle.rep_types.specs.declared.ids.Cluster.{Cluster}
 use Rattle.rep_types.specs.declared.ids.Cluster.TheVariants as cluster
 use Rattle.rep_types.specs.declared.table.Family.{Family}
@@ -23,7 +23,7 @@ use Rattle.rep_model.specs.Commits.{settled, settled_one}
 use Rattle.rep_model.specs.Places.{is_off, opens_at, on_at, closes_at, lost_at, table_of, is_closed, used, lacks_room}
 use Rattle.rep_model.specs.Needs.{log_needer}
 use Rattle.rep_model.specs.LogEvents.{own_pending, broken_by, emptied, synced_with}
-use Rattle.rep_model.specs.RegionEvents.{hosted, next_region, too_many, table_row, place_of, moved, barrier, opened, open_begin_row, Marking, marking, marker_refusals, marked_at, open_end_row, close_begin_row, close_end_row, flushed, recover_row, flush_row, compact_row, splits, split_row, merge_row, has_no_log, sweep_row}
+use Rattle.rep_model.specs.RegionEvents.{too_many, table_row, place_of, moved, barrier, opened, open_begin_row, Marking, marking, marker_refusals, marked_at, open_end_row, close_begin_row, close_end_row, flushed, recover_row, flush_row, compact_row, splits, split_row, merge_row, has_no_log, sweep_row}
 use Rattle.rep_model.specs.Row.{site, run_sites, fault_among, is_put}
 use Rattle.rep_model.specs.declared.machine.Machine.{Machine}
 use Rattle.rep_model.specs.declared.machine.Side.{Side}
@@ -31,16 +31,14 @@ use Rattle.rep_model.specs.declared.machine.Pending.{Pending}
 use Rattle.rep_model.specs.declared.machine.Hosted.{Hosted}
 use Rattle.rep_model.specs.declared.machine.Region.{Region}
 use Rattle.rep_model.specs.declared.machine.Server.{Server}
-use Rattle.rep_laws.proofs.Lists.{In, found_in, found_passes}
 use Rattle.rep_laws.proofs.Finding.{find_replaced, find_elsewhere}
 use Rattle.rep_laws.proofs.FrontMoves.{length_replaced}
-use Rattle.rep_laws.proofs.Sides.{of_with, settled_is, settled_side, committed, committed_is, told_after}
-
+use Rattle.rep_laws.proofs.Sides.{of_with}
 use Rattle.rep_laws.proofs.Steps.{if_some_true, if_some_false, given_some, not_none}
 use Rattle.rep_laws.proofs.DoesQueues.{given_is}
 use Rattle.rep_laws.proofs.DoesRegions.{placed_refusals, region_in}
 use Rattle.rep_laws.proofs.Numbering.{Numbered}
-use Rattle.rep_laws.proofs.Acts.{works_at, is_at, region_numbers, Served, Turns, Stays, Opens, Opened, Closes, Leaves, Retires, StaysGone, Act, Acts, Nothing, act, acts_then, ServerStands, RegionsJoin, RegionTurns}
+use Rattle.rep_laws.proofs.Acts.{works_at, is_at, Served, Turns, Stays, Opens, Opened, Closes, Leaves, Retires, StaysGone, Act, Acts, act, acts_then, ServerStands, RegionsJoin, RegionTurns}
 use Rattle.rep_laws.proofs.ActForms.{Acted, first_acted, fault_acted, simple_acted, given_acted, still_acted, given_acts, server_number, server_again, region_again, on_is, opens_is, closes_is, lost_is, off_is, has_room, broken_acts, synced_one}
 
 pub table_acted : (c : Cluster) → is_paired c ≡ true → (name : List ℕ) (families : List Family) (said : Reply) (m : Machine) → Acted m (table_row c name families said m)
@@ -67,18 +65,18 @@ open_begin_acted c pair r s said m = simple_acted (
     record { acts = act (RegionTurns c pair h (opened s (barrier c r m) h) (region_again c r m h e) refl (subst (λ p. Turns c m p (place.Opening s)) (sym off) (Opens s v.0 v.1 live))) }))
 
 -- a marker's region and server are the cluster's, and the region is of such a place there
-pub record Marks (at : PlaceOf → Option ℕ) (c : Cluster) (m : Machine) (x : Marking) : Type 0 where
+pub record MarkerAt (at : PlaceOf → Option ℕ) (c : Cluster) (m : Machine) (x : Marking) : Type 0 where
   pub region : region_of c x.hosted.region.number m ≡ Some x.hosted
   pub server : server_of c x.server.number m ≡ Some x.server
   pub place : at x.hosted.place ≡ Some x.server.number
 
-marked_there : (at : PlaceOf → Option ℕ) (c : Cluster) (r : ℕ) (m : Machine) (x : Marking) → marking at c r m ≡ Some x → Marks at c m x
+marked_there : (at : PlaceOf → Option ℕ) (c : Cluster) (r : ℕ) (m : Machine) (x : Marking) → marking at c r m ≡ Some x → MarkerAt at c m x
 marked_there at c r m x e =
     let h = given_some (region_of c r m) _ x e in
     let s = given_some (at h.0.place) _ x h.2 in
     let v = given_some (server_of c s.0 m) _ x s.2 in
     let same : record { hosted = h.0; server = v.0 } ≡ x = same_Some _ x v.2 in
-    subst (Marks at c m) same (record { region = region_again c r m h.0 h.1; server = server_again c s.0 m v.0 v.1; place = s.1 ∙ ap (λ k. Some k) (sym (server_number c s.0 m v.0 v.1)) })
+    subst (MarkerAt at c m) same (record { region = region_again c r m h.0 h.1; server = server_again c s.0 m v.0 v.1; place = s.1 ∙ ap (λ k. Some k) (sym (server_number c s.0 m v.0 v.1)) })
 
 -- commits and a region's place change in either order
 turned : (c : Cluster) (h : Hosted) (v : Server) (m : Machine) → with c (record (of c m) { servers = replace (is_server v.number) v (of c m).servers; regions = replace (is_region h.region.number) h (of c m).regions }) m ≡ with_region c h (with_server c v m)
@@ -132,7 +130,7 @@ failed_acts false c pair x k m s room = broken_acts c pair x.server (own_pending
 marker_room : (at : PlaceOf → Option ℕ) (c : Cluster) (r : ℕ) (m : Machine) (x : Marking) → marking at c r m ≡ Some x → AllByRecursion (λ (q : Bool × Refusal). q.0 ≡ false) (marker_refusals at c r m) → used c x.server m + 32 ≤ 65536
 marker_room at c r m x e none = has_room c x.server 32 m (if_some_false (marking at c r m) (λ (y : Marking). lacks_room c y.server 32 m) x e none.1.1.1.0)
 
-served_by : (at : PlaceOf → Option ℕ) (c : Cluster) (m : Machine) (x : Marking) → Marks at c m x → works_at x.server.number x.hosted.place ≡ true → Served c m x.server x.hosted.region
+served_by : (at : PlaceOf → Option ℕ) (c : Cluster) (m : Machine) (x : Marking) → MarkerAt at c m x → works_at x.server.number x.hosted.place ≡ true → Served c m x.server x.hosted.region
 served_by at c m x k works = record { found = k.server; hosted = x.hosted; there = region_in c x.hosted.region.number m x.hosted k.region; region = refl; works = works }
 
 pub open_end_acted : (c : Cluster) → is_paired c ≡ true → (r : ℕ) (said : Reply) (m : Machine) → Acted m (open_end_row c r said m)

@@ -1,8 +1,8 @@
 -- Each act keeps that flights are numbered by their places.
-use Rattle.std.proofs.Common.{ℕ, suc, ◌+◌, ◌≡◌, true, List, [], ◌∷◌, ◌++◌, map, length, find, Some, refl, ap, sym, ◌∙◌, subst, arith}
+use Rattle.std.proofs.Common.{◌+◌, ◌≡◌, List, [], ◌∷◌, ◌++◌, map, length, sym, subst, arith}
 use Rattle.std.proofs.lemmas.List.{map-append}
 use Rattle.rep_types.specs.declared.ids.Cluster.{Cluster}
-use Rattle.rep_model.specs.State.{of, with, is_flight, with_server}
+use Rattle.rep_model.specs.State.{with, is_flight, with_server}
 use Rattle.rep_model.specs.declared.machine.Machine.{Machine}
 use Rattle.rep_model.specs.declared.machine.Side.{Side}
 use Rattle.rep_model.specs.declared.machine.Flight.{Flight}
@@ -36,8 +36,8 @@ act_flights m new (EntryPends c pair v x whole served room none) k = aside c _ m
 act_flights m new (PutPends c pair v x served room ticket) k = aside c _ m k
 act_flights m new (EntriesCommit c pair v to xs ts commits) k = subst FlightsNumbered (sym (settled_flights c v.number v.log xs (with_server c to (record m { tickets = ts })))) (aside c _ (record m { tickets = ts }) k)
 act_flights m new (PeerJoins c pair p kind tables none) k = aside c _ m k
-act_flights m new (PeerStands c pair x to found same) k = aside c _ m k
-act_flights m new (PeerLeaves c pair x found) k = aside c _ m k
+act_flights m new (PeerStands c pair x to found same sync) k = aside c _ m k
+act_flights m new (PeerLeaves c pair x found plain) k = aside c _ m k
 act_flights m new (PeersRestart c pair) k = aside c _ m k
 act_flights m new (QueueStands c pair q to found) k = aside c _ m k
 act_flights m new (FlightJoins f number) k = pushed m.flights f number k

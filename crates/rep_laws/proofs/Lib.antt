@@ -52,5 +52,9 @@ pub mod RowActs
 pub mod ActSides
 pub mod SeatPart
 pub mod FlightsPart
+pub mod Slots
+pub mod PromisePart
+pub mod QueuesPart
+pub mod LogsPart
 pub mod Steady
 pub mod CitedMore

@@ -1,8 +1,7 @@
 -- Lists whose items have numbers, in order from a number on or all different: what is found by them, and what a replacement leaves.
-use Rattle.std.proofs.Common.{ℕ, zero, suc, ◌+◌, ◌≤◌, ◌≡◌, ◌==◌, ◌⊎◌, inl, inr, Bool, true, false, List, [], ◌∷◌, ◌++◌, map, length, find, Some, None, slice_get, refl, ap, sym, ◌∙◌, subst, arith, eqb-true, eq-eqb, ne_eqb}
+use Rattle.std.proofs.Common.{ℕ, zero, suc, ◌+◌, ◌≤◌, ◌≡◌, ◌==◌, ◌⊎◌, inl, inr, Bool, List, [], ◌∷◌, ◌++◌, map, length, find, Some, None, slice_get, refl, ap, sym, ◌∙◌, subst, arith, eqb-true, eq-eqb, ne_eqb}
 use Rattle.std.specs.List.{AllByRecursion}
 use Rattle.std.proofs.lemmas.Bool.{cond_both, cond-true, cond-false, true≢false}
-use Rattle.std.proofs.lemmas.Option.{same_Some}
 use Rattle.rep_model.specs.Keyed.{replace}
 use Rattle.rep_laws.proofs.Lists.{In, in_all, all_in, All_weaker, All_both}
 use Rattle.rep_laws.proofs.FrontPart.{Different}
@@ -44,10 +43,6 @@ found_key f x (y ∷ ys) d i = elim i [
   | inl e ↦ cond-true (f y == f x) (Some y) (find (λ z. f z == f x) ys) (eq-eqb (f y) (f x) (ap f (sym e))) ∙ ap (λ z. Some z) (sym e)
   | inr r ↦ cond-false (f y == f x) (Some y) (find (λ z. f z == f x) ys) (ne_eqb (f y) (f x) (in_all (λ k. f y ≡ k → ⊥) (f x) (map f ys) (in_mapped f x ys r) d.0)) ∙ found_key f x ys d.1 r
 ]
-
--- of one number there is one item
-pub one_of_key : {X : Type 0} (f : X → ℕ) (x y : X) (xs : List X) → Different (map f xs) → In x xs → In y xs → f x ≡ f y → x ≡ y
-one_of_key f x y xs d i j e = same_Some x y (sym (found_key f x xs d i) ∙ (ap (λ k. find (λ z. f z == k) xs) e ∙ found_key f y xs d j))
 
 past : (n k j : ℕ) → j ≡ n → j ≡ n + suc k → ⊥
 past n k j e h = omega arith

@@ -1,5 +1,5 @@
 -- Each act keeps where regions are: what is pending stands at a server where its region is, and what is committed is of a region that stands.
-use Rattle.std.proofs.Common.{ℕ, suc, ◌+◌, ◌≡◌, ◌==◌, ◌⊎◌, inl, inr, Bool, true, false, List, [], ◌∷◌, ◌++◌, map, length, find, Some, None, option_map, refl, ap, sym, ◌∙◌, subst, arith, eqb-true, eq-eqb, ne_eqb}
+use Rattle.std.proofs.Common.{ℕ, ◌+◌, ◌≡◌, ◌==◌, ◌⊎◌, inl, inr, Bool, true, false, List, [], ◌∷◌, ◌++◌, map, length, find, Some, None, option_map, refl, ap, sym, ◌∙◌, subst, arith, eqb-true, eq-eqb, ne_eqb}
 use Rattle.std.specs.List.{AllByRecursion}
 use Rattle.std.proofs.lemmas.Bool.{cond_both, cases_eq, eqb-false, false≢true, true≢false}
 use Rattle.std.proofs.lemmas.List.{map-append}
@@ -9,7 +9,7 @@ use Rattle.rep_types.specs.declared.ids.Cluster.TheVariants.{A, B, C}
 use Rattle.rep_types.specs.declared.state.PlaceOf.{PlaceOf}
 use Rattle.rep_types.specs.declared.state.PlaceOf.TheVariants as place
 use Rattle.rep_model.specs.Keyed.{replace}
-use Rattle.rep_model.specs.State.{of, with, is_server, is_region, server_of, region_of, with_server}
+use Rattle.rep_model.specs.State.{of, with, is_server, is_region, server_of, region_of}
 use Rattle.rep_model.specs.Words.{is_paired}
 use Rattle.rep_model.specs.Changes.{takes_pending}
 use Rattle.rep_model.specs.Commits.{commit_of}
@@ -96,15 +96,15 @@ region_found h regions n i = found_key (λ (g : Hosted). g.region.number) h regi
 works_again : (v new : Server) (servers : List Server) → find (is_server new.number) servers ≡ Some v → new.live ≡ v.live → (h : Hosted) → Works servers h → Works (replace (is_server new.number) new servers) h
 works_again v new servers there live h w s t = let f = w s t in elim (cases_eq new.number s) [
   | inl e ↦ (
-      new,
-      ap (λ k. find (is_server k) (replace (is_server new.number) new servers)) (sym e) ∙ find_replaced (is_server new.number) new v servers (eq-eqb new.number new.number refl) there,
-      live ∙ (ap (λ (z : Server). z.live) (same_Some v f.0 (sym there ∙ (ap (λ k. find (is_server k) servers) e ∙ f.1))) ∙ f.2),
-      )
+    new,
+    ap (λ k. find (is_server k) (replace (is_server new.number) new servers)) (sym e) ∙ find_replaced (is_server new.number) new v servers (eq-eqb new.number new.number refl) there,
+    live ∙ (ap (λ (z : Server). z.live) (same_Some v f.0 (sym there ∙ (ap (λ k. find (is_server k) servers) e ∙ f.1))) ∙ f.2),
+  )
   | inr n ↦ (
-      f.0,
-      find_elsewhere (is_server new.number) (is_server s) new servers (ne_eqb new.number s n) (λ y q. ne_eqb y.number s (λ z. n (sym (eqb-true y.number new.number q) ∙ z))) ∙ f.1,
-      f.2,
-      )
+    f.0,
+    find_elsewhere (is_server new.number) (is_server s) new servers (ne_eqb new.number s n) (λ y q. ne_eqb y.number s (λ z. n (sym (eqb-true y.number new.number q) ∙ z))) ∙ f.1,
+    f.2,
+  )
 ]
 
 server_seats : {servers : List Server} {regions : List Hosted} {commits : List Commit} (v new : Server) → find (is_server new.number) servers ≡ Some v → new.live ≡ v.live → Rests new → AllPlaced regions new → SeatSide servers regions commits
@@ -220,7 +220,7 @@ turn_at c m n p q (Leaves r k v at found empty) busy t = absurd (busy v (ap (λ 
 turn_at c m n p q Retires busy t = absurd (false≢true t)
 turn_at c m n p q StaysGone busy t = absurd (false≢true t)
 
-nowhere : (x : Pending) (xs : List Pending) → In x xs → xs ≡ [] → ⊥
+pub nowhere : (x : Pending) (xs : List Pending) → In x xs → xs ≡ [] → ⊥
 nowhere x xs i e = subst (In x) e i
 
 turn_placed : (c : Cluster) (m : Machine) (h new : Hosted) → region_of c new.region.number m ≡ Some h → new.region ≡ h.region → Turns c m h.place new.place → SeatIn (of c m) → (v : Server) → In v (of c m).servers → (x : Pending) → In x v.pending
@@ -229,10 +229,10 @@ turn_placed c m h new there same turns o v i x j p =
     let rests : Rests v = in_all Rests v (of c m).servers i o.resting in
     let busy : (w : Server) → server_of c v.number m ≡ Some w → (w.pending ≡ []) ⊎ (w.sealed ≡ true) → ⊥ =
     λ w found empty. (let one : w ≡ v = same_Some w v (sym found ∙ server_found v (of c m).servers o.servers_differ i) in
-      elim empty [
-        | inl e ↦ nowhere x v.pending j (ap (λ (z : Server). z.pending) (sym one) ∙ e)
-        | inr s ↦ nowhere x v.pending j (rests (ap (λ (z : Server). z.sealed) (sym one) ∙ s)).1
-      ]) in
+    elim empty [
+      | inl e ↦ nowhere x v.pending j (ap (λ (z : Server). z.pending) (sym one) ∙ e)
+      | inr s ↦ nowhere x v.pending j (rests (ap (λ (z : Server). z.sealed) (sym one) ∙ s)).1
+    ]) in
     elim (turned_found h new (of c m).regions there x.region.number p.0 p.1) [
       | inl f ↦ (new, f.1, same ∙ (ap (λ (g : Hosted). g.region) (sym f.0) ∙ p.2), turn_at c m v.number h.place new.place turns busy (ap (λ (g : Hosted). is_at v.number g.place) (sym f.0) ∙ p.3))
       | inr f ↦ (p.0, f, p.2, p.3)
@@ -338,8 +338,8 @@ act_seats m new (PutPends c pair v x served room ticket) k = seats_tickets _ _ (
 act_seats m new (EntriesCommit c pair v to xs ts commits) k =
     subst Seats (sym (entries_committed c v.number v.log to xs ts m)) (seats_tickets _ _ (seats_with c pair _ m (commit_seats c m v to xs ts commits (seats_at c pair m k)) k))
 act_seats m new (PeerJoins c pair p kind tables none) k = seats_with c pair _ m (seats_at c pair m k) k
-act_seats m new (PeerStands c pair x to found same) k = seats_with c pair _ m (seats_at c pair m k) k
-act_seats m new (PeerLeaves c pair x found) k = seats_with c pair _ m (seats_at c pair m k) k
+act_seats m new (PeerStands c pair x to found same sync) k = seats_with c pair _ m (seats_at c pair m k) k
+act_seats m new (PeerLeaves c pair x found plain) k = seats_with c pair _ m (seats_at c pair m k) k
 act_seats m new (PeersRestart c pair) k = seats_with c pair _ m (seats_at c pair m k) k
 act_seats m new (QueueStands c pair q to found) k = seats_with c pair _ m (seats_at c pair m k) k
 act_seats m new (FlightJoins f number) k = seats_flights m _ k

@@ -1,5 +1,7 @@
 -- What is kept by the acts of a legal run, besides the laws.
-use Rattle.std.proofs.Common.{◌≡◌, List, [], ◌∷◌}
+use Rattle.std.proofs.Common.{◌≤◌, arith, List, [], ◌∷◌}
+use Rattle.rep_types.specs.declared.ids.Cluster.{Cluster}
+use Rattle.rep_types.specs.declared.ids.Cluster.TheVariants.{A, B}
 use Rattle.rep_types.specs.declared.record.Record.{Record}
 use Rattle.rep_model.specs.State.{opening, empty_side}
 use Rattle.rep_model.specs.Rows.{row}
@@ -10,18 +12,39 @@ use Rattle.rep_laws.proofs.Acts.{Acts, Nothing, After}
 use Rattle.rep_laws.proofs.RowActs.{row_acted}
 use Rattle.rep_laws.proofs.SeatPart.{Seats, SeatIn, act_seats}
 use Rattle.rep_laws.proofs.FlightsPart.{FlightsNumbered, act_flights}
+use Rattle.rep_laws.proofs.PromisePart.{Promises, PromiseSide, act_promises}
+use Rattle.rep_laws.proofs.QueuesPart.{Queued, QueueIn, act_queued}
+use Rattle.rep_laws.proofs.LogsPart.{Logged, LogIn, act_logged}
 
 pub record Steady (m : Machine) : Type 0 where
   pub seats : Seats m
   pub flights : FlightsNumbered m.flights
+  pub promises : Promises m
+  pub queued : Queued m
+  pub logged : Logged m
 
 nothing_seated : SeatIn empty_side
 nothing_seated = record { servers_differ = tt; resting = tt; numbered = tt; working = tt; placed = tt; known = tt }
+
+nothing_promised : (c : Cluster) → PromiseSide c [] []
+nothing_promised c = record { promised = tt; rising = tt; single = λ v w i j x y a b k e f. absurd i }
+
+nothing_queued : QueueIn empty_side
+nothing_queued = record { peers_differ = tt; synchronous = tt; stays = tt; whole = λ p v i j stands unsealed. absurd i }
+
+nothing_logged : LogIn empty_side
+nothing_logged = record { begun = tt; within = tt; rising = tt; sequenced = tt; fits = λ s l. none; room = tt }
+  where
+    none : 0 ≤ 65536
+    none = omega arith
 
 opening_steady : Steady opening
 opening_steady = record {
   seats = record { a = nothing_seated; b = nothing_seated };
   flights = tt;
+  promises = record { a = nothing_promised A; b = nothing_promised B };
+  queued = record { a = nothing_queued; b = nothing_queued };
+  logged = record { a = nothing_logged; b = nothing_logged };
 }
 
 acts_steady : (m new : Machine) → Acts m new → Steady m → Steady new
@@ -29,6 +52,9 @@ acts_steady m new Nothing k = k
 acts_steady m new (After xs x) k = let mid = acts_steady m _ xs k in record {
   seats = act_seats _ _ x mid.seats;
   flights = act_flights _ _ x mid.flights;
+  promises = act_promises _ _ x mid.seats mid.promises;
+  queued = act_queued _ _ x mid.queued;
+  logged = act_logged _ _ x mid.seats mid.logged;
 }
 
 steady_from : (rs : List Record) (m : Machine) (n : Counts) → Lawful m → Steady m → LegalFrom m n rs → Steady (state_from m rs)
