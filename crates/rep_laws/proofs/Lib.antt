@@ -56,5 +56,10 @@ pub mod Slots
 pub mod PromisePart
 pub mod QueuesPart
 pub mod LogsPart
+pub mod TablesPart
 pub mod Steady
 pub mod CitedMore
+pub mod Lengths
+pub mod RowLengths
+pub mod RowLeaves
+pub mod Settling

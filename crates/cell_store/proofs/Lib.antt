@@ -1,0 +1,6 @@
+mod Adding
+mod Columns
+mod Order
+mod Rows
+mod Searching
+mod Showing
