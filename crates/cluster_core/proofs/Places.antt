@@ -1,5 +1,5 @@
 -- An item that is changed at its place, and one that is found by its number.
-use Rattle.std.proofs.Common.{ℕ, zero, suc, ◌≡◌, ◌≤◌, ◌==◌, Bool, true, false, List, [], ◌∷◌, map, find, length, set, Option, Some, None, slice_get, refl, ap, sym, ◌∙◌, subst, arith, cond}
+use Rattle.std.proofs.Common.{ℕ, zero, suc, ◌≡◌, ◌≤◌, Bool, true, List, [], ◌∷◌, map, find, length, set, Some, slice_get, refl, ap, sym, ◌∙◌, arith, cond}
 use Rattle.std.proofs.lemmas.Bool.{cond_both, cond-true, cond-false}
 use Rattle.std.proofs.lemmas.Option.{same_Some, none-some}
 use Rattle.rep_model.specs.Keyed.{replace}

@@ -1,7 +1,7 @@
 -- What one pending entry more, or one that is committed, leaves of the traces of regions.
-use Rattle.std.proofs.Common.{ℕ, zero, suc, ◌+◌, ◌-◌, ◌<◌, ◌≤◌, ◌≡◌, ◌≢◌, ◌==◌, ◌⊎◌, inl, inr, Bool, true, false, cond, min, List, [], ◌∷◌, ◌++◌, map, find, count_by, sum_by, Option, Some, None, slice_get, refl, ap, sym, ◌∙◌, subst, arith, eqb-true, eq-eqb, ne_eqb, append_assoc, append-nil}
+use Rattle.std.proofs.Common.{ℕ, zero, suc, ◌+◌, ◌-◌, ◌<◌, ◌≡◌, ◌==◌, ◌⊎◌, inl, inr, false, cond, min, List, [], ◌∷◌, ◌++◌, map, find, Option, Some, None, slice_get, refl, ap, sym, ◌∙◌, subst, arith, eqb-true, eq-eqb, ne_eqb, append_assoc, append-nil}
 use Rattle.std.specs.List.{AllByRecursion}
-use Rattle.std.proofs.lemmas.Bool.{cond_both, cond-true, cond-false, cases_eq, false≢true, true≢false}
+use Rattle.std.proofs.lemmas.Bool.{cond-true, cond-false, cases_eq, true≢false}
 use Rattle.std.proofs.lemmas.List.Sums.{sum_by-append, sum_by-cons}
 use Rattle.std.proofs.lemmas.Option.{same_Some, none-some}
 use Rattle.region_barriers.specs.History.{History}
@@ -16,7 +16,7 @@ use Rattle.rep_model.specs.declared.machine.Commit.{Commit}
 use Rattle.rep_model.specs.declared.machine.Hosted.{Hosted}
 use Rattle.rep_model.specs.declared.machine.Pending.{Pending}
 use Rattle.rep_model.specs.declared.machine.Server.{Server}
-use Rattle.rep_laws.proofs.Lists.{In, in_all, All_weaker, All_found, All_both, found_passes}
+use Rattle.rep_laws.proofs.Lists.{All_weaker, found_passes}
 use Rattle.rep_laws.proofs.Finding.{find_replaced, find_elsewhere}
 use Rattle.cluster_core.specs.declared.parts.Trace.{Trace}
 use Rattle.cluster_core.specs.Entries.{entry_of, coming}
@@ -85,7 +85,7 @@ pending_same r s srv new servers a b there e (Some t) = elim (cases_eq s t) [
 
 -- ---- one trace
 
-same_trace : (a a' b b' f : ℕ) (h h' : History) → a ≡ a' → b ≡ b' → h ≡ h'
+pub same_trace : (a a' b b' f : ℕ) (h h' : History) → a ≡ a' → b ≡ b' → h ≡ h'
     → ◌≡◌ {A = Trace} (record { commits = a; pending = b; flushed = f; barriers = h }) (record { commits = a'; pending = b'; flushed = f; barriers = h' })
 same_trace a a' b b' f h h' p q e =
     ap (λ x. let t : Trace = record { commits = x; pending = b; flushed = f; barriers = h } in t) p

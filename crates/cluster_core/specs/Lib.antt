@@ -1,7 +1,9 @@
 pub mod Absorbing
 pub mod Accepting
+pub mod Changes
 pub mod Does
 pub mod Entries
+pub mod Lines
 pub mod Logs
 pub mod Lookups
 pub mod Memory

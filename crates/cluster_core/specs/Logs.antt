@@ -1,11 +1,10 @@
 -- A server's logs as files of its cluster's store.
-use Rattle.std.specs.Prelude.{ℕ, ◌<◌, ◌≤◌, ◌≡◌, ◌⊎◌, Bool, true, false, not, List, [], ◌∷◌, ◌++◌, take, Option, Some, None}
+use Rattle.std.specs.Prelude.{ℕ, ◌<◌, ◌≤◌, ◌≡◌, ◌⊎◌, Bool, true, false, not, List, [], ◌++◌, take, Option, Some, None}
 use Rattle.rep_types.specs.declared.entry.Entry.{Entry}
 use Rattle.wal_entry.specs.Spelling.{spelling}
 use Rattle.rep_vault.specs.Contents.{File, empty_file, Contents}
 use Rattle.wal_roll.specs.Log.{Log, wal, log_name, frames, frame_size, writer_of}
 use Rattle.region_server.specs.Host.{HostValue, IsHost}
-use Rattle.rep_model.specs.declared.machine.Side.{Side}
 use Rattle.rep_model.specs.declared.machine.Server.{Server}
 use Rattle.rep_model.specs.declared.machine.Commit.{Commit}
 use Rattle.cluster_core.specs.Entries.{log_entries, pending_entries}

@@ -1,5 +1,5 @@
 -- What holds of each cluster's state that a legal run reaches, as far as memory needs it.
-use Rattle.std.specs.Prelude.{ℕ, suc, ◌+◌, ◌≤◌, ◌≡◌, true, List, map, find, Option, Some, slice_get}
+use Rattle.std.specs.Prelude.{ℕ, suc, ◌+◌, ◌≤◌, ◌≡◌, true, List, map, find, Some, slice_get}
 use Rattle.std.specs.List.{AllByRecursion}
 use Rattle.rep_model.specs.State.{is_region}
 use Rattle.rep_model.specs.Commits.{log_commits}

@@ -1,5 +1,5 @@
 -- Memory and a store stand for a cluster's state, in parts.
-use Rattle.std.specs.Prelude.{ℕ, ◌+◌, ◌<◌, ◌≤◌, ◌^◌, ◌==◌, ◌≡◌, ◌≢◌, ◌⊎◌, Bool, true, false, List, [], ◌∷◌, map, find, Option, Some, None}
+use Rattle.std.specs.Prelude.{ℕ, ◌+◌, ◌<◌, ◌^◌, ◌==◌, ◌≡◌, ◌≢◌, ◌⊎◌, Bool, true, false, List, [], map, find, Option, Some, None}
 use Rattle.std.specs.List.{AllByRecursion}
 use Rattle.rep_types.specs.declared.ids.Cluster.{Cluster}
 use Rattle.rep_types.specs.declared.state.Kind.TheVariants.{Plain}
@@ -11,12 +11,11 @@ use Rattle.rep_model.specs.Words.{is_paired}
 use Rattle.rep_model.specs.declared.machine.Commit.{Commit}
 use Rattle.rep_model.specs.declared.machine.Side.{Side}
 use Rattle.rep_model.specs.declared.machine.Server.{Server}
-use Rattle.rep_model.specs.declared.machine.Peer.{Peer}
 use Rattle.cluster_core.specs.declared.parts.ClusterCore.{ClusterCore}
 use Rattle.cluster_core.specs.declared.parts.Station.{Station}
 use Rattle.cluster_core.specs.declared.parts.PeerLine.{PeerLine}
 use Rattle.cluster_core.specs.Entries.{entry_of, pending_entries, tickets_of}
-use Rattle.cluster_core.specs.Texts.{RecordKey, OfServer, key_text, expected, of_server, log_text}
+use Rattle.cluster_core.specs.Texts.{RecordKey, OfServer, key_text, expected, log_text}
 use Rattle.cluster_core.specs.Memory.{map_of, IndexStands, peer_line, queue_of_line, IsAt}
 use Rattle.cluster_core.specs.Logs.{IsFresh, LogsStand}
 

@@ -1,6 +1,4 @@
 use Rattle.cluster_core.proofs.Answering.{does_refused}
-use Rattle.cluster_core.proofs.Frames.{station_same}
-use Rattle.cluster_core.proofs.Finds.{find_map}
 use Rattle.cluster_core.proofs.laws.a_refusal_leaves_all.Goals as goal
 
 pub returns-clause-refused : goal.returns-clause-refused

@@ -1,0 +1,7 @@
+//! Queues over a cluster in memory and its store: what is sent, arrives and is recorded.
+#![tactic(auto)]
+
+mod flights;
+mod recording;
+
+pub use recording::confirm;
