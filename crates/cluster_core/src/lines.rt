@@ -88,7 +88,10 @@ pub fn is_live(stations: &Items<Station>, server: ServerId) -> bool
 pub fn find_shelf(shelves: &Items<Shelf>, server: ServerId) -> Option<&Shelf>
     ensures { option_copied result ≡ find (is_shelf server) shelves.now }
 {
-    shelves.as_slice().iter().find(|shelf| shelf.server == server)
+    shelves
+        .as_slice()
+        .iter()
+        .find(|shelf| shelf.server == server)
 }
 
 /// How many commits the server has.

@@ -186,9 +186,9 @@ recorded_flies k f m c core fs there reached st flights none =
     let side : Side = requeued (replace (is_peer (x.0).number) (noted x.0 f.entries) (of own m).peers) (replace (is_queue line.peer line.server) (record (queue_of_line line) { flight = None }) (of own m).queues) (of own m) in
     let left : landed f (recorded own f.peer f.entries m) ≡ with own side m = landed_is own f.peer f.server f.entries x.0 (queue_of_line line) m known queue in
     let lines : memory.landed (sent_of f) core ≡ record core { lines = replace (is_line f.peer f.server) (lands (length f.entries) (shelf_length f.server core.index.shelves) line) core.lines } =
-        ap (λ (o : Option Line). record core { lines = given o core.lines (λ w. replace (is_line f.peer f.server) (lands (length f.entries) (shelf_length f.server core.index.shelves) w) core.lines) }) l.1 in
+    ap (λ (o : Option Line). record core { lines = given o core.lines (λ w. replace (is_line f.peer f.server) (lands (length f.entries) (shelf_length f.server core.index.shelves) w) core.lines) }) l.1 in
     let stands : Stands own c (memory.landed (sent_of f) core) (of own (with own side m)) =
-        subst (λ (w : ClusterCore). Stands own c w (of own (with own side m))) (sym lines) (subst (Stands own c _) (sym (of_with own side m)) (landed_stands own c core m st.paired reached st f x.0 line flying known l.1 out)) in
+    subst (λ (w : ClusterCore). Stands own c w (of own (with own side m))) (sym lines) (subst (Stands own c _) (sym (of_with own side m)) (landed_stands own c core m st.paired reached st f x.0 line flying known l.1 out)) in
     flies_as own _ m (with own side m) c (memory.landed (sent_of f) core) fs (reply.Recorded (length f.entries)) (row_is k (length f.entries) f m there none ∙ ap (answers (reply.Recorded (length f.entries))) left) stands (other_with own side m st.paired) (flights ∙ ap (map sent_of) (sym (flights_with own side m)))
 
 -- ---- what memory answers
