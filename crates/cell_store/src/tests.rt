@@ -20,14 +20,28 @@ fn cell(alloc: Global, line: &Line<'_>) -> Result<Cell, Fail> {
     })
 }
 
-// An edit of the first line's row.
-fn edit(alloc: Global, lines: &[Line<'_>]) -> Result<Edit, Fail> {
-    let (row, _, _, _, _) = *lines.first().ok_or("no line")?;
+fn cells(alloc: Global, lines: &[Line<'_>]) -> Result<Cells, Fail> {
     let mut cells = Cells::new(alloc);
     for line in lines {
         cells.push(cell(alloc, line)?)?;
     }
-    Ok(Edit::new(Name::new(alloc, "t")?, Key::new(alloc, row)?, cells)?)
+    Ok(cells)
+}
+
+// An edit of the first line's row.
+fn edit(alloc: Global, lines: &[Line<'_>]) -> Result<Edit, Fail> {
+    let (row, _, _, _, _) = *lines.first().ok_or("no line")?;
+    let row = Key::new(alloc, row)?;
+    Ok(Edit::new(Name::new(alloc, "t")?, row, cells(alloc, lines)?)?)
+}
+
+// Each so many lines are an edit.
+fn stored(alloc: Global, lines: &[Line<'_>], each: usize) -> Result<CellStore, Fail> {
+    let mut store = CellStore::new(alloc);
+    for part in lines.chunks(each.max(1)) {
+        store.apply(alloc, &edit(alloc, part)?)?;
+    }
+    Ok(store)
 }
 
 fn text(alloc: Global, views: &Views) -> Result<String, Fail> {
@@ -38,22 +52,13 @@ fn text(alloc: Global, views: &Views) -> Result<String, Fail> {
         let qualifier = view.qualifier.as_str();
         let stamp = view.stamp;
         let value = str::from_utf8(view.value.as_slice())?;
-        let line = format!(in alloc; "{row} {family}:{qualifier} {stamp} {value};")?;
-        text.push_str(line.as_str())?;
+        write!(text, "{row} {family}:{qualifier} {stamp} {value};")?;
     }
     Ok(text)
 }
 
-fn stored(alloc: Global, edits: &[&[Line<'_>]]) -> Result<CellStore, Fail> {
-    let mut store = CellStore::new(alloc);
-    for lines in edits {
-        store.apply(alloc, &edit(alloc, lines)?)?;
-    }
-    Ok(store)
-}
-
-fn scanned(alloc: Global, edits: &[&[Line<'_>]]) -> Result<String, Fail> {
-    text(alloc, &stored(alloc, edits)?.scan(alloc)?)
+fn scanned(alloc: Global, lines: &[Line<'_>], each: usize) -> Result<String, Fail> {
+    text(alloc, &stored(alloc, lines, each)?.scan(alloc)?)
 }
 
 fn got(alloc: Global, store: &CellStore, row: &str) -> Result<String, Fail> {
@@ -62,57 +67,54 @@ fn got(alloc: Global, store: &CellStore, row: &str) -> Result<String, Fail> {
 
 #[test]
 fn a_column_shows_its_put_above_deletes(rt: HostRuntime) -> Result<(), Fail> {
-    let alloc = rt.alloc();
-    let low = [("r", "f", "q", 5, Some("low"))];
-    let high = [("r", "f", "q", 7, Some("high"))];
-    let again = [("r", "f", "q", 7, Some("again"))];
-    let at = [("r", "f", "q", 7, None)];
-    let below = [("r", "f", "q", 6, None)];
-    let above = [("r", "f", "q", 8, Some("above"))];
-    assert_eq!(rt; scanned(alloc, &[])?.as_str(), "");
-    assert_eq!(rt; scanned(alloc, &[&low, &high])?.as_str(), "r f:q 7 high;");
-    assert_eq!(rt; scanned(alloc, &[&high, &low])?.as_str(), "r f:q 7 high;");
+    let low = ("r", "f", "q", 5, Some("low"));
+    let high = ("r", "f", "q", 7, Some("high"));
+    let again = ("r", "f", "q", 7, Some("again"));
+    let at = ("r", "f", "q", 7, None);
+    let below = ("r", "f", "q", 6, None);
+    let above = ("r", "f", "q", 8, Some("above"));
+    let table: [([Line<'_>; 3], &str); 6] = [
+        ([low, low, high], "r f:q 7 high;"),
+        ([high, low, low], "r f:q 7 high;"),
+        ([high, again, low], "r f:q 7 again;"),
+        ([low, high, at], ""),
+        ([at, below, high], ""),
+        ([at, below, above], "r f:q 8 above;"),
+    ];
+    for (lines, expected) in table {
+        assert_eq!(rt; scanned(rt.alloc(), &lines, 1)?.as_str(), expected);
+    }
     assert_eq!(rt;
-        scanned(alloc, &[&high, &again])?.as_str(),
-        "r f:q 7 again;"
-    );
-    assert_eq!(rt; scanned(alloc, &[&high, &at])?.as_str(), "");
-    assert_eq!(rt; scanned(alloc, &[&at, &below, &high])?.as_str(), "");
-    assert_eq!(rt; scanned(alloc, &[&high, &below])?.as_str(), "r f:q 7 high;");
-    assert_eq!(rt;
-        scanned(alloc, &[&at, &low, &above])?.as_str(),
-        "r f:q 8 above;"
+        scanned(rt.alloc(), &[high, below], 1)?.as_str(),
+        "r f:q 7 high;"
     );
     Ok(())
 }
 
 #[test]
 fn rows_are_read_alone_and_tables_in_order(rt: HostRuntime) -> Result<(), Fail> {
-    let alloc = rt.alloc();
-    let first = [
+    let lines = [
         ("r2", "g", "a", 1, Some("one")),
         ("r2", "f", "b", 1, Some("two")),
-    ];
-    let second = [
         ("r1", "f", "b", 1, Some("three")),
         ("r1", "f", "a", 1, Some("four")),
+        ("r10", "f", "b", 2, Some("five")),
+        ("r10", "f", "c", 2, None),
+        ("r2", "f", "b", 1, None),
+        ("r2", "f", "a", 1, None),
     ];
-    let third = [("r10", "f", "b", 2, Some("five"))];
-    let fourth = [("r2", "f", "b", 1, None), ("r2", "f", "a", 1, None)];
-    let store = stored(alloc, &[&first, &second, &third])?;
-    let one = "r1 f:a 1 four;r1 f:b 1 three;";
-    let ten = "r10 f:b 2 five;";
-    let two = "r2 f:b 1 two;r2 g:a 1 one;";
-    assert_eq!(rt; got(alloc, &store, "r1")?.as_str(), one);
-    assert_eq!(rt; got(alloc, &store, "r10")?.as_str(), ten);
-    assert_eq!(rt; got(alloc, &store, "r2")?.as_str(), two);
-    assert_eq!(rt; got(alloc, &store, "r")?.as_str(), "");
-    assert_eq!(rt; got(alloc, &store, "r3")?.as_str(), "");
-    let all = text(alloc, &store.scan(alloc)?)?;
-    let expected = "r1 f:a 1 four;r1 f:b 1 three;r10 f:b 2 five;r2 f:b 1 two;r2 g:a 1 one;";
-    assert_eq!(rt; all.as_str(), expected);
-    let erased = stored(alloc, &[&first, &fourth, &second])?;
-    assert_eq!(rt; got(alloc, &erased, "r2")?.as_str(), "r2 g:a 1 one;");
-    assert_eq!(rt; got(alloc, &erased, "r1")?.as_str(), one);
+    let store = stored(rt.alloc(), &lines, 2)?;
+    let table = [
+        ("r1", "r1 f:a 1 four;r1 f:b 1 three;"),
+        ("r10", "r10 f:b 2 five;"),
+        ("r2", "r2 g:a 1 one;"),
+        ("r", ""),
+        ("r3", ""),
+    ];
+    for (row, expected) in table {
+        assert_eq!(rt; got(rt.alloc(), &store, row)?.as_str(), expected);
+    }
+    let all = "r1 f:a 1 four;r1 f:b 1 three;r10 f:b 2 five;r2 g:a 1 one;";
+    assert_eq!(rt; scanned(rt.alloc(), &lines, 2)?.as_str(), all);
     Ok(())
 }
