@@ -1,8 +1,8 @@
 use super::*;
 use rep_types::{
-    Bytes, Call, Cause, CellView, Cluster, DrainEnd, Event, Items, Key, Name, PeerId, Phase, PlaceOf,
-    QueueView, Record, Refusal, RegionId, RegionLine, Reply, ServerId, SideLine, StatusLine,
-    StuckCause, SyncState, Tickets, Views,
+    Bytes, Call, Cause, CellView, Cluster, DrainEnd, Event, Items, Key, Name, PeerId, Phase,
+    PlaceOf, QueueView, Record, Refusal, RegionId, RegionLine, Reply, ServerId, SideLine,
+    StatusLine, StuckCause, SyncState, Tickets, Views,
 };
 use std::alloc::Global;
 use std::test::Fail;
