@@ -1,5 +1,5 @@
 -- The views of a state: the lines of its queues and regions, and the status line.
-use Rattle.std.specs.Prelude.{ℕ, List, [], length, flat_map, Option, Some, None, if◌then◌else◌}
+use Rattle.std.specs.Prelude.{ℕ, List, [], length, flat_map, Some, None, if◌then◌else◌}
 use Rattle.rep_types.specs.declared.ids.Cluster.{Cluster}
 use Rattle.rep_types.specs.declared.ids.Cluster.TheVariants.{A, B}
 use Rattle.rep_types.specs.declared.view.QueueView.{QueueView}

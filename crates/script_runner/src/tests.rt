@@ -16,11 +16,8 @@ const OPENED: &[u8] = b"1 server a 1 -> ok\n2 server b 1 -> ok\n3 table a t f/1 
 const SHIPPED: &[u8] = b"10 put a t r1 f:q@10=v -> ok region=1 seq=2 ticket=1\n\
 11 sync a 1 -> ok commits=1 acks=1\n12 send a 1 1 25 -> ok flight=1 entries=1 forms=1\n\
 13 deliver 1 -> all arrived=1 acks=-\n14 confirm 1 -> ok recorded=1\n\
-15 show a t -> ok cells=1\n| r1 f:q@10=v\n16 show b t -> ok cells=1\n| r1 f:q@10=v\n";
-
-const VIEWS: &[u8] = b"status\nregions a\nqueues a\nqueues b\nshow a u\n";
-
-const VIEWED: &[u8] = b"{\"a\":{\"commits\":2,\"live\":[1],\"sync\":\"absent\"},\
+15 show a t -> ok cells=1\n| r1 f:q@10=v\n16 show b t -> ok cells=1\n| r1 f:q@10=v\n\
+{\"a\":{\"commits\":2,\"live\":[1],\"sync\":\"absent\"},\
 \"b\":{\"commits\":2,\"live\":[1],\"sync\":\"absent\"},\"flights\":1,\"records\":16}\n\
 region a 1 t - - on:1 barriers=1 final=none parents=-\nqueue a 1 1 owner=1 left=0 flight=none\n\
 17 show a u -> notable\n";
@@ -74,7 +71,8 @@ fn runs(
     Ok(status == answer && out.bytes() == text)
 }
 
-const LATER: &[u8] = b"put a t r1 f:q@10=v\nsync a 1\nship a 1 1\nshow a t\nshow b t\n";
+const LATER: &[u8] = b"put a t r1 f:q@10=v\nsync a 1\nship a 1 1\nshow a t\nshow b t\n\
+status\nregions a\nqueues a\nqueues b\nshow a u\n";
 
 fn shipped(alloc: Global, most: usize) -> Result<bool, Fail>
     requires { 1 ≤ most }
@@ -82,14 +80,6 @@ fn shipped(alloc: Global, most: usize) -> Result<bool, Fail>
     let script = join(alloc, OPENING, LATER)?;
     let lines = join(alloc, OPENED, SHIPPED)?;
     runs(alloc, script, sound(most), Status::Ok, lines.as_slice())
-}
-
-fn viewed(alloc: Global) -> Result<bool, Fail> {
-    let opening = join(alloc, OPENING, LATER)?;
-    let script = join(alloc, opening.as_slice(), VIEWS)?;
-    let opened = join(alloc, OPENED, SHIPPED)?;
-    let lines = join(alloc, opened.as_slice(), VIEWED)?;
-    runs(alloc, script, sound(4096), Status::Ok, lines.as_slice())
 }
 
 fn shipped_nothing(alloc: Global, most: usize) -> Result<bool, Fail>
@@ -114,12 +104,6 @@ fn scripts_print_their_lines(rt: HostRuntime) -> Result<(), Fail> {
 fn feeds(alloc: Global, many: usize, answer: Status) -> Result<bool, Fail> {
     let script = Items::from_vec(vec![in alloc; b'\n'; many]?);
     runs(alloc, script, sound(4096), answer, b"")
-}
-
-#[test]
-fn views_print_the_state_so_far(rt: HostRuntime) -> Result<(), Fail> {
-    assert!(rt; viewed(rt.alloc())?);
-    Ok(())
 }
 
 #[test]
