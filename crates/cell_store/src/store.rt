@@ -6,7 +6,6 @@ use std::marker::Model;
 
 #[derive(Drop)]
 pub struct CellStore {
-    alloc: Global,
     edits: Items<Edit>,
 }
 
@@ -24,16 +23,15 @@ impl CellStore {
         ensures { result ≡ [] }
     {
         CellStore {
-            alloc,
             edits: Items::new(alloc),
         }
     }
 
-    pub fn apply(&mut self, edit: &Edit) -> Result<(), Memory>
+    pub fn apply(&mut self, alloc: Global, edit: &Edit) -> Result<(), Memory>
         ensures ok { OnOk result (self.new ≡ self.old ++ edit.now ∷ []) }
         ensures err { OnErr result (self.new ≡ self.old) }
     {
-        let copy = edit.copy(self.alloc)?;
+        let copy = edit.copy(alloc)?;
         self.edits.push(copy)
     }
 }

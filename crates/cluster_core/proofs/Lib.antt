@@ -1,9 +1,16 @@
+pub mod Absorbed
+pub mod Accepted
 pub mod Answering
 pub mod Commas
 pub mod Finds
 pub mod Frames
 pub mod Keys
 pub mod Lookups
+pub mod Naming
+pub mod Places
 pub mod RecordsPut
+pub mod Shelving
 pub mod Simple
 pub mod Staying
+pub mod Tracing
+pub mod Writing

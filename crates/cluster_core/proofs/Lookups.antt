@@ -1,5 +1,5 @@
 -- What memory's lookups say of the state.
-use Rattle.std.proofs.Common.{ℕ, zero, suc, ◌+◌, ◌<◌, ◌≡◌, ◌↔◌, ◌&&◌, not, Bool, true, false, cond, List, [], ◌∷◌, ◌++◌, map, length, find, position, slice_get, sum, Option, Some, None, option_map, refl, ap, sym, ◌∙◌, subst, arith, eqb-true, eq-eqb, length-append}
+use Rattle.std.proofs.Common.{ℕ, zero, suc, ◌+◌, ◌<◌, ◌≡◌, ◌↔◌, ◌&&◌, not, Bool, true, cond, List, [], ◌∷◌, ◌++◌, map, length, find, position, slice_get, sum, Option, Some, None, option_map, refl, ap, sym, ◌∙◌, subst, arith, eqb-true, eq-eqb, length-append}
 use Rattle.std.proofs.lemmas.Option.{same_Some, none-some}
 use Rattle.std.specs.List.{position_or_len}
 use Rattle.std.proofs.lemmas.Bool.{false≢true, cond_both, cond-true}
@@ -79,10 +79,11 @@ station_found c side stations s (Some at) e stand =
   where
     here : find (is_station s) stations ≡ slice_get stations at
     here = find-at (is_station s) stations at (sym e)
+
     found : (q : Option Station) → slice_get stations at ≡ q → HasStation c side stations s at
     found (Some st) is =
         let k = station_of c side s st (find (is_server s) side.servers) (subst (λ q. StationAt c side s q (find (is_server s) side.servers)) (here ∙ is) (stand s)) in
-        record { server = k.0; known = k.1; number = server_number s side.servers k.0 k.1; station = st; there = is; found = here ∙ is; stands = k.2 }
+        record { server = k.0; known = k.1; number = server_number s side.servers k.0 k.1; station = st; there = is; first = sym e; found = here ∙ is; stands = k.2 }
     found None is = absurd (taken (is_station s) stations at (sym e) is)
 
 -- ---- tables and regions
@@ -129,10 +130,10 @@ find_both p q [] x y e f a b = absurd (none-some x e)
 find_both p q (z ∷ xs) x y e f a b =
     cond_both (p z) (Some z) (find p xs) (λ w. w ≡ Some x → x ≡ y)
     (λ t e. let is : z ≡ x = same_Some z x e in
-        same_Some x y (ap Some (sym is) ∙ (sym (cond-true (q z) (Some z) (find q xs) (ap q is ∙ b)) ∙ f)))
+    same_Some x y (ap Some (sym is) ∙ (sym (cond-true (q z) (Some z) (find q xs) (ap q is ∙ b)) ∙ f)))
     (λ n e. cond_both (q z) (Some z) (find q xs) (λ w. w ≡ Some y → x ≡ y)
-        (λ t f. let is : z ≡ y = same_Some z y f in absurd (false≢true (sym n ∙ (ap p is ∙ a))))
-        (λ _ f. find_both p q xs x y e f a b) f) e
+    (λ t f. let is : z ≡ y = same_Some z y f in absurd (false≢true (sym n ∙ (ap p is ∙ a))))
+    (λ _ f. find_both p q xs x y e f a b) f) e
 
 some_passes : {X : Type 0} (o : Option X) (test : X → Bool) → meta.if_some o test ≡ true → (x : X) × (o ≡ Some x) × (test x ≡ true)
 unfolding meta.given

@@ -1,8 +1,11 @@
+pub mod Absorbing
+pub mod Accepting
 pub mod Changes
 pub mod Does
 pub mod Entries
 pub mod Logs
 pub mod Lookups
 pub mod Memory
+pub mod Orderly
 pub mod Stands
 pub mod Texts

@@ -1,13 +1,17 @@
 //! One cluster: what memory and a store have to do with the machine's state. The events stand in the crates above.
 #![tactic(auto)]
 
+mod accepting;
+mod index;
 mod laws;
 mod lists;
 mod lookup;
 mod parts;
+mod pending;
 mod puts;
 mod records;
 
+pub use accepting::{accept, log_fits};
 pub use laws::a_refusal_leaves_all;
 pub use lookup::{
     Seat, families, find_peer, line_at, located, located_number, on_at, region, seat_of,

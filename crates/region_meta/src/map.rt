@@ -64,6 +64,13 @@ impl RegionMap {
         self.names.get_index_of(table.as_str())
     }
 
+    /// The regions, in the order of their numbers.
+    pub fn regions(&self) -> &[Region]
+        ensures { result.now ≡ self.now.regions }
+    {
+        self.regions.as_slice()
+    }
+
     /// The region of a number.
     pub fn region(&self, region: RegionId) -> Option<&Region>
         ensures found { option_copied result ≡ region_of region self.now }
