@@ -53,6 +53,7 @@ use Rattle.cluster_core.specs.Does.{Does, Reached}
 use Rattle.cluster_core.proofs.RecordsPut.{Owes, Put, IsDue, IsAside, change_of, records_put}
 use Rattle.cluster_core.proofs.Simple.{simple_refused, simple_faulted, simple_done, does_with, does_nothing}
 use Rattle.cluster_core.proofs.Staying.{servers_kept, lines_kept}
+use Rattle.region_events.proofs.Awaited.{written_is_known}
 use Rattle.region_events.specs.Refusals.{table_refusal}
 use Rattle.region_events.specs.Effects.{first_trace, no_cells, with_table}
 
@@ -114,8 +115,10 @@ module _ (own : Cluster) (c c' : Contents) (core : ClusterCore) (side : Side) (n
   due : AllByRecursion (IsDue after) puts
   due = (
     record { small = omega arith; owed = sym (ap (option_map table_text) found_table) },
-    (record { small = few; owed = sym (ap (option_map hosted_text) found_region) },
-    (record { small = few; owed = sym (ap (option_map (opens_text side.commits)) found_region) }, tt))
+    (
+      record { small = few; owed = sym (ap (option_map hosted_text) found_region) },
+      (record { small = few; owed = sym (ap (option_map (opens_text side.commits)) found_region) }, tt),
+    ),
   )
 
   others : (k : RecordKey) → number_of k < 2 ^ 32 → IsAside puts k → (o : Option (List ℕ)) → Owes side k o → Owes after k o
@@ -221,16 +224,16 @@ module _ (own : Cluster) (c : Contents) (core : ClusterCore) (name : List ℕ) (
   slots : (journal : List Record) → IsLegal journal → state_of journal ≡ m → (k : ℕ) → find (is_region (suc k)) (of own m).regions ≡ slice_get (of own m).regions k
   slots journal legal is k = subst (λ (n : Machine). find (is_region (suc k)) (of own n).regions ≡ slice_get (of own n).regions k) is (region_is_slot journal legal own stands.paired k)
 
-  pub table_made : (n : ℕ) (c' : Contents) (core' : ClusterCore) → Reached m → ((w : Written) → In w (of own m).written → is_some (find (is_named w.edit.table) (of own m).tables) ≡ true)
-      → None ≡ table_refusal own name m → length core.index.traces < 4096 → n ≡ length core.index.traces + 1
+  pub table_made : (n : ℕ) (c' : Contents) (core' : ClusterCore) → Reached m → None ≡ table_refusal own name m → length core.index.traces < 4096 → n ≡ length core.index.traces + 1
       → c' ≡ with_records (setting (OfTable name) (list_text (map family_text families)) ∷ setting (OfRegion n) (region_text name None None place.Off []) ∷ setting (OfBarriers n) (barriers_text [] 0) ∷ []) c
       → core' ≡ with_table name families core → Does own (table_row own name families (reply.Made n) m) m c' core' (reply.Made n)
   unfolding table_row
-  table_made n c' core' (journal, legal, is) written e room count put made =
+  table_made n c' core' (journal, legal, is) e room count put made =
       let side : Side = of own m in
       let free : find (is_named name) side.tables ≡ None = no_table own name m core stands.index e in
       let next : find (is_region (next_region side)) side.regions ≡ None = next_is_free side.regions (slots journal legal is) in
       let number : n ≡ next_region side = count ∙ ap (λ k. k + 1) (as_many own name m core stands.index) in
+      let written : (w : Written) → In w side.written → is_some (find (is_named w.edit.table) side.tables) ≡ true = λ w. subst (λ (k : Machine). In w (of own k).written → is_some (find (is_named w.edit.table) (of own k).tables) ≡ true) is (written_is_known journal legal own stands.paired w) in
       let unwritten : table_edits name side.written ≡ [] = no_edits name side.written (All_weaker (λ w i. other_text w.edit.table name (λ s. true≢false (sym (written w i) ∙ (ap (λ t. is_some (find (is_named t) side.tables)) s ∙ ap is_some free)))) side.written (all_in side.written)) in
       let few : next_region side < 2 ^ 32 = omega (arith, room, as_many own name m core stands.index) in
       does_with own (table_row own name families (reply.Made n) m) m (side_after name families side) c' core' (reply.Made n) stands.paired

@@ -85,12 +85,7 @@ fn changes(
 }
 
 // Puts the table and its region into memory.
-fn add(
-    core: &mut ClusterCore,
-    alloc: Global,
-    name: Name,
-    families: Families,
-) -> Result<(), Memory>
+fn add(core: &mut ClusterCore, alloc: Global, name: Name, families: Families) -> Result<(), Memory>
     ensures { OnOk result (core.new ≡ with_table name families core.old) }
 {
     let cells = TableCells {
