@@ -41,7 +41,7 @@ use Rattle.rep_model.specs.declared.machine.Commit.{Commit}
 use Rattle.rep_model.specs.declared.machine.Written.{Written}
 use Rattle.rep_laws.proofs.Lists.{In, all_in, All_weaker}
 use Rattle.rep_laws.proofs.Finding.{find_first, find_aside}
-use Rattle.rep_laws.proofs.CitedMore.{regions_are_known, region_is_slot}
+use Rattle.rep_laws.proofs.CitedMore.{regions_are_known, region_is_slot, written_is_known}
 use Rattle.cluster_core.specs.declared.parts.ClusterCore.{ClusterCore}
 use Rattle.cluster_core.specs.declared.parts.Trace.{Trace}
 use Rattle.cluster_core.specs.declared.parts.TableCells.{TableCells}
@@ -53,7 +53,6 @@ use Rattle.cluster_core.specs.Does.{Does, Reached}
 use Rattle.cluster_core.proofs.RecordsPut.{Owes, Put, IsDue, IsAside, change_of, records_put}
 use Rattle.cluster_core.proofs.Simple.{simple_refused, simple_faulted, simple_done, does_with, does_nothing}
 use Rattle.cluster_core.proofs.Staying.{servers_kept, lines_kept}
-use Rattle.region_events.proofs.Awaited.{written_is_known}
 use Rattle.region_events.specs.Refusals.{table_refusal}
 use Rattle.region_events.specs.Effects.{first_trace, no_cells, with_table}
 
