@@ -1,0 +1,3 @@
+pub mod TableAdded
+pub mod OpeningBegun
+pub mod Awaited

@@ -1,0 +1,28 @@
+use Rattle.std.proofs.Common.{List, ap, ◌∙◌}
+use Rattle.rep_vault.specs.declared.store.Change.{Change}
+use Rattle.rep_vault.specs.Contents.{with_records}
+use Rattle.region_events.proofs.OpeningBegun.{open_refused, open_faulted, open_known, open_traced, open_ordered, open_done}
+use Rattle.region_events.proofs.openings.open_begin.Goals as goal
+
+pub returns-in-Some-clause-does : goal.returns-in-Some-clause-does
+returns-in-Some-clause-does g c = λ m reached stands. open_refused _ _ _ c.args.region c.args.server m stands c.in-Some.why (c.in-Some.ensures m (g.V.Vault.contents c.args.own.now) stands.regions stands.servers)
+
+pub prepare-requires-clause-known : goal.prepare-requires-clause-known
+prepare-requires-clause-known g c = let k = c.requires in open_known _ _ _ c.args.region c.args.server k.0 k.2 (c.in-None.ensures k.0 (g.V.Vault.contents c.args.own.now) k.2.regions k.2.servers)
+
+pub prepare-requires-clause-traced : goal.prepare-requires-clause-traced
+prepare-requires-clause-traced g c = let k = c.requires in open_traced _ _ _ c.args.region c.args.server k.0 k.2 (c.in-None.ensures k.0 (g.V.Vault.contents c.args.own.now) k.2.regions k.2.servers) k.1
+
+pub open-requires-clause-within : goal.open-requires-clause-within
+open-requires-clause-within g c = let k = c.requires in open_traced _ _ _ c.args.region c.args.server k.0 k.2 (c.in-None.ensures k.0 (g.V.Vault.contents c.args.own.now) k.2.regions k.2.servers) k.1
+
+pub open-requires-clause-order : goal.open-requires-clause-order
+open-requires-clause-order g c = let k = c.requires in open_ordered _ _ _ c.args.region c.args.server k.0 k.2 (c.in-None.ensures k.0 (g.V.Vault.contents c.args.own.now) k.2.regions k.2.servers) k.1 c.in-Ok.next.barrier _ c.in-Ok.ensures
+
+pub returns-in-Ok-open-clause-does : goal.returns-in-Ok-open-clause-does
+returns-in-Ok-open-clause-does g c = λ m reached stands.
+    open_done _ _ _ c.args.region c.args.server m stands (c.in-None.ensures m (g.V.Vault.contents c.args.own.now) stands.regions stands.servers) reached c.in-Ok.next.barrier _ _ _ c.in-Ok.ensures
+    (c.in-Done.ensures.does ∙ ap (λ (cs : List Change). with_records cs (g.V.Vault.contents c.args.own.now)) c.deref.ensures.value) c.in-Ok-open.ensures
+
+pub returns-in-Fault-clause-does : goal.returns-in-Fault-clause-does
+returns-in-Fault-clause-does g c = λ m reached stands. open_faulted _ _ _ c.args.region c.args.server m stands c.in-Fault.count _ (c.in-None.ensures m (g.V.Vault.contents c.args.own.now) stands.regions stands.servers) c.in-Fault.ensures.does

@@ -1,0 +1,8 @@
+//! Events of tables and regions: what they do to one cluster's memory and store.
+#![tactic(auto)]
+
+mod openings;
+mod tables;
+
+pub use openings::open_begin;
+pub use tables::table;

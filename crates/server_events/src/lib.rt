@@ -1,0 +1,6 @@
+//! Events of servers and peers: what they do to one cluster's memory and store.
+#![tactic(auto)]
+
+mod servers;
+
+pub use servers::server;
