@@ -1,6 +1,7 @@
 pub mod Absorbed
 pub mod Accepted
 pub mod Answering
+pub mod Beside
 pub mod Commas
 pub mod Finds
 pub mod Frames
@@ -12,5 +13,7 @@ pub mod RecordsPut
 pub mod Shelving
 pub mod Simple
 pub mod Staying
+pub mod Synced
 pub mod Tracing
+pub mod Turning
 pub mod Writing

@@ -248,7 +248,7 @@ queue_found core side p s stand = ap (λ (qs : List Queue). find (is_queue p s) 
 
 -- ---- the bytes of a log
 
-frames_length : (xs : List Commit) → length (frames (map entry_of xs)) ≡ commits_length xs
+pub frames_length : (xs : List Commit) → length (frames (map entry_of xs)) ≡ commits_length xs
 frames_length [] = refl
 frames_length (x ∷ xs) =
     length-append (spelling (entry_of x)) (frames (map entry_of xs))

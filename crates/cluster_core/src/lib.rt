@@ -2,6 +2,7 @@
 #![tactic(auto)]
 
 mod accepting;
+mod committing;
 mod index;
 mod laws;
 mod lists;
@@ -12,6 +13,7 @@ mod puts;
 mod records;
 
 pub use accepting::{accept, log_fits};
+pub use committing::{CommitError, commit};
 pub use laws::a_refusal_leaves_all;
 pub use lookup::{
     Seat, families, find_peer, line_at, located, located_number, on_at, region, seat_of,
