@@ -29,7 +29,7 @@ use Rattle.rep_laws.proofs.Lists.{all_in, found_in, found_passes, All_append, Al
 use Rattle.rep_laws.proofs.Sides.{other_paired}
 use Rattle.rep_laws.proofs.Steps.{none_holds, given_some}
 use Rattle.rep_laws.proofs.DoesQueues.{queue_numbers}
-use Rattle.rep_laws.proofs.Acts.{works_at, Served, IsDue, Acts, Nothing, act, LinkStands, EntryPends, EntriesCommit, QueueStands}
+use Rattle.rep_laws.proofs.Acts.{works_at, Served, OfTable, Writable, IsDue, Acts, Nothing, act, LinkStands, EntryPends, EntriesCommit, QueueStands}
 
 -- what the row leaves is reached by acts
 pub record Acted (m : Machine) (row : Row) : Type 0 where
@@ -62,9 +62,13 @@ unfolding given
 given_acts None m some h = Nothing
 given_acts (Some x) m some h = h x refl
 
+-- what is written stays
+pub still_written : (c : Cluster) (m : Machine) → AllByRecursion (Writable (of c m).tables (of c m).written) (of c m).written
+still_written c m = All_weaker (λ w i. inl i) (of c m).written (all_in (of c m).written)
+
 -- a copy in the other cluster
 pub copy_acts : (b : Bool) (c : Cluster) → is_paired c ≡ true → (s l : ℕ) (m : Machine) → Acts m (make_copy b c s l m)
-copy_acts true c pair s l m = act (LinkStands (other c) (other_paired c pair) (of (other c) m).written (copied s l (of (other c) m).link))
+copy_acts true c pair s l m = act (LinkStands (other c) (other_paired c pair) (of (other c) m).written (copied s l (of (other c) m).link) (still_written (other c) m))
 copy_acts false c pair s l m = Nothing
 
 -- a queue's flight
@@ -143,11 +147,11 @@ pub has_room : (c : Cluster) (v : Server) (need : ℕ) (m : Machine) → lacks_r
 has_room c v need m h = ltb-false 65536 (used c v m + need) h
 
 -- an entry is pending in a broken log
-pub broken_acts : (c : Cluster) → is_paired c ≡ true → (v : Server) (x : Pending) (m : Machine) → Served c m v x.region → used c v m + frame_length x.kind ≤ 65536 → x.ticket ≡ None → Acts m (broken_by c v x m)
-broken_acts c pair v x m s room none = act (EntryPends c pair v x false s room none)
+pub broken_acts : (c : Cluster) → is_paired c ≡ true → (v : Server) (x : Pending) (m : Machine) → Served c m v x.region → used c v m + frame_length x.kind ≤ 65536 → x.ticket ≡ None → OfTable x.kind x.region → Acts m (broken_by c v x m)
+broken_acts c pair v x m s room none titled = act (EntryPends c pair v x false s room none titled)
 
 -- the pending list is committed, and what comes behind it
-pub synced_acts : (c : Cluster) → is_paired c ≡ true → (v : Server) (ps : List Pending) (m : Machine) → server_of c v.number m ≡ Some v → AllByRecursion (λ (x : Pending). Served c m v x.region × (x.ticket ≡ None)) ps
+pub synced_acts : (c : Cluster) → is_paired c ≡ true → (v : Server) (ps : List Pending) (m : Machine) → server_of c v.number m ≡ Some v → AllByRecursion (λ (x : Pending). Served c m v x.region × (x.ticket ≡ None) × OfTable x.kind x.region) ps
     → (used c v m ≤ 65536 → used c v m + pending_length ps ≤ 65536) → Acts m (synced_with c v ps m)
 synced_acts c pair v ps m found all room = act (EntriesCommit c pair v (emptied v) (v.pending ++ ps) m.tickets (record {
   found = found;
@@ -167,8 +171,8 @@ synced_acts c pair v ps m found all room = act (EntriesCommit c pair v (emptied 
     fitting a b n k e h = omega arith
 
 -- the one entry behind it
-pub synced_one : (c : Cluster) → is_paired c ≡ true → (v : Server) (x : Pending) (m : Machine) → Served c m v x.region → used c v m + frame_length x.kind ≤ 65536 → x.ticket ≡ None → Acts m (synced_with c v (x ∷ []) m)
-synced_one c pair v x m s room none = synced_acts c pair v (x ∷ []) m s.found ((s, none), tt) (λ _. one (used c v m) (frame_length x.kind) room)
+pub synced_one : (c : Cluster) → is_paired c ≡ true → (v : Server) (x : Pending) (m : Machine) → Served c m v x.region → used c v m + frame_length x.kind ≤ 65536 → x.ticket ≡ None → OfTable x.kind x.region → Acts m (synced_with c v (x ∷ []) m)
+synced_one c pair v x m s room none titled = synced_acts c pair v (x ∷ []) m s.found ((s, none, titled), tt) (λ _. one (used c v m) (frame_length x.kind) room)
   where
     one : (u n : ℕ) → u + n ≤ 65536 → u + (0 + n) ≤ 65536
     one u n h = omega arith

@@ -1,23 +1,28 @@
 -- What an event does to servers, regions, commits, peers, queues, flights and tickets, told more exactly than by moves.
-use Rattle.std.proofs.Common.{ℕ, ◌+◌, ◌≤◌, ◌≡◌, ◌==◌, ◌⊎◌, Bool, true, false, List, [], ◌∷◌, ◌++◌, length, map, Some, None}
+use Rattle.std.proofs.Common.{ℕ, ◌+◌, ◌≤◌, ◌≡◌, ◌==◌, ◌⊎◌, Bool, true, false, List, [], ◌∷◌, ◌++◌, length, map, find, take, Some, None, is_some}
 use Rattle.std.specs.List.{AllByRecursion}
 use Rattle.rep_types.specs.declared.ids.Cluster.{Cluster}
 use Rattle.rep_types.specs.declared.entry.EntryId.{EntryId}
+use Rattle.rep_types.specs.declared.entry.EntryKind.{EntryKind}
+use Rattle.rep_types.specs.declared.entry.EntryKind.TheVariants as kind
 use Rattle.rep_types.specs.declared.state.Kind.{Kind}
 use Rattle.rep_types.specs.declared.state.PlaceOf.{PlaceOf}
 use Rattle.rep_types.specs.declared.state.PlaceOf.TheVariants as place
 use Rattle.wal_entry.specs.Length.{frame_length}
 use Rattle.rep_model.specs.Keyed.{replace}
-use Rattle.rep_model.specs.State.{of, with, is_server, is_peer, is_flight, server_of, region_of, queue_of, flight_of, with_server, with_region, with_peer, with_queue}
+use Rattle.rep_model.specs.State.{of, with, other, is_server, is_peer, is_flight, server_of, region_of, queue_of, flight_of, with_server, with_region, with_peer, with_queue}
 use Rattle.rep_model.specs.Words.{is_paired}
 use Rattle.rep_model.specs.Changes.{takes_pending}
 use Rattle.rep_model.specs.Commits.{log_commits, settled}
+use Rattle.rep_model.specs.Copies.{lowest_copy}
+use Rattle.rep_model.specs.Forms.{forms}
 use Rattle.rep_model.specs.Frames.{commits_length, pending_length}
 use Rattle.rep_model.specs.Peers.{is_removed, is_synchronous}
-use Rattle.rep_model.specs.Places.{after_death, used}
+use Rattle.rep_model.specs.Places.{after_death, is_named, used}
 use Rattle.rep_model.specs.Tickets.{with_ticket, doubt_pending, tell_waiting}
 use Rattle.rep_model.specs.LogEvents.{server_added}
 use Rattle.rep_model.specs.PeerEvents.{peer_added, restarted_side}
+use Rattle.rep_model.specs.PromotionEvents.{covered_tables}
 use Rattle.rep_model.specs.declared.machine.Machine.{Machine}
 use Rattle.rep_model.specs.declared.machine.Pending.{Pending}
 use Rattle.rep_model.specs.declared.machine.Written.{Written}
@@ -29,12 +34,13 @@ use Rattle.rep_model.specs.declared.machine.Peer.{Peer}
 use Rattle.rep_model.specs.declared.machine.Standing.TheVariants as standing
 use Rattle.rep_model.specs.declared.machine.Queue.{Queue}
 use Rattle.rep_model.specs.declared.machine.Link.{Link}
+use Rattle.rep_model.specs.declared.machine.RemoteCopy.{RemoteCopy}
 use Rattle.rep_model.specs.declared.machine.Flight.{Flight}
 use Rattle.rep_model.specs.declared.machine.Ticket.{Ticket}
 use Rattle.rep_model.specs.declared.machine.Told.{Told}
 use Rattle.rep_model.specs.declared.machine.Told.TheVariants as told
 use Rattle.rep_laws.proofs.Lists.{In}
-use Rattle.rep_laws.proofs.Moves.{other_queues}
+use Rattle.rep_laws.proofs.Moves.{other_queues, written_form}
 use Rattle.rep_laws.proofs.Flow.{peer_at}
 use Rattle.rep_laws.proofs.Numbering.{Numbered}
 
@@ -59,6 +65,25 @@ is_at s place.Gone = false
 abbrev pub region_numbers : List Hosted → List ℕ
 region_numbers hs = map (λ (h : Hosted). h.region.number) hs
 
+-- a table of this name stands
+abbrev pub HasTable : List Table → List ℕ → Type 0
+HasTable tables name = is_some (find (is_named name) tables) ≡ true
+
+-- what an entry writes is of its region's table
+abbrev pub OfTable : EntryKind → Region → Type 0
+OfTable kind.Opened r = Unit {0}
+OfTable kind.Closed r = Unit {0}
+OfTable (kind.Write e) r = e.table ≡ r.table.name
+
+-- the item was written before, or is of a table that stands
+abbrev pub Writable : List Table → List Written → Written → Type 0
+Writable tables old w = In w old ⊎ HasTable tables w.edit.table
+
+-- what a replay writes is of tables that stand
+abbrev pub Replayable : Machine → Type 0
+Replayable m = (c : Cluster) → is_paired c ≡ true → (k : RemoteCopy) (n : ℕ) → lowest_copy (of c m).link.replaying ≡ Some k
+    → AllByRecursion (λ (w : Written). HasTable (of c m).tables w.edit.table) (map written_form (forms (other c) c (covered_tables (of (other c) m).peers) (take n k.offered)))
+
 -- the server stands, and the region is the cluster's and works there
 pub record Served (c : Cluster) (m : Machine) (v : Server) (r : Region) : Type 0 where
   pub found : server_of c v.number m ≡ Some v
@@ -80,7 +105,7 @@ pub data Turns (c : Cluster) (m : Machine) : PlaceOf → PlaceOf → Type 0 wher
 
 -- an entry that waited, or comes now without a ticket
 abbrev pub IsDue : Cluster → Machine → Server → Pending → Type 0
-IsDue c m v x = In x v.pending ⊎ (Served c m v x.region × (x.ticket ≡ None))
+IsDue c m v x = In x v.pending ⊎ (Served c m v x.region × (x.ticket ≡ None) × OfTable x.kind x.region)
 
 -- entries of a server are committed, and it stands as new with nothing pending
 pub record Committing (c : Cluster) (m : Machine) (v new : Server) (xs : List Pending) (ts : List Ticket) : Type 0 where
@@ -105,22 +130,23 @@ died c v m =
 
 pub data Act (m : Machine) : Machine → Type 0 where
   -- what is written and the link stand as said
-  LinkStands : (c : Cluster) → is_paired c ≡ true → (ws : List Written) (link : Link) → Act m (with c (record (of c m) { written = ws; link = link }) m)
+  LinkStands : (c : Cluster) → is_paired c ≡ true → (ws : List Written) (link : Link) → AllByRecursion (Writable (of c m).tables (of c m).written) ws → Act m (with c (record (of c m) { written = ws; link = link }) m)
   -- waiting tickets end
   TicketsEnd : (c : Cluster) (test : ℕ → ℕ → Bool) (new : EntryId → Told) → Act m (record m { tickets = tell_waiting c test new m.tickets })
   ServerJoins : (c : Cluster) → is_paired c ≡ true → (s : ℕ) → server_of c s m ≡ None → Act m (server_added c s m)
   ServerStands : (c : Cluster) → is_paired c ≡ true → (v : Server) (whole : Bool) (lowest : ℕ) → server_of c v.number m ≡ Some v → Act m (with_server c (record v { whole = whole; lowest = lowest }) m)
   ServerDies : (c : Cluster) → is_paired c ≡ true → (v : Server) → server_of c v.number m ≡ Some v → v.live ≡ true → Act m (died c v m)
-  -- new regions, numbered behind those that stand
+  -- new regions, numbered behind those that stand; no table goes
   RegionsJoin : (c : Cluster) → is_paired c ≡ true → (tables : List Table) (hs : List Hosted) → Numbered (length (of c m).regions + 1) (region_numbers hs) → AllByRecursion (λ (h : Hosted). h.place ≡ place.Off) hs
-      → Act m (with c (record (of c m) { tables = tables; regions = (of c m).regions ++ hs }) m)
+      → ((name : List ℕ) → HasTable (of c m).tables name → HasTable tables name) → Act m (with c (record (of c m) { tables = tables; regions = (of c m).regions ++ hs }) m)
   RegionTurns : (c : Cluster) → is_paired c ≡ true → (h new : Hosted) → region_of c new.region.number m ≡ Some h → new.region ≡ h.region → Turns c m h.place new.place → Act m (with_region c new m)
   -- an entry without a ticket is pending, and a put with the next ticket
-  EntryPends : (c : Cluster) → is_paired c ≡ true → (v : Server) (x : Pending) (whole : Bool) → Served c m v x.region → used c v m + frame_length x.kind ≤ 65536 → x.ticket ≡ None → Act m (with_server c (takes_pending x whole v) m)
-  PutPends : (c : Cluster) → is_paired c ≡ true → (v : Server) (x : Pending) → Served c m v x.region → used c v m + frame_length x.kind ≤ 65536 → x.ticket ≡ Some (length m.tickets + 1) → Act m (with_ticket c (with_server c (takes_pending x true v) m))
+  EntryPends : (c : Cluster) → is_paired c ≡ true → (v : Server) (x : Pending) (whole : Bool) → Served c m v x.region → used c v m + frame_length x.kind ≤ 65536 → x.ticket ≡ None → OfTable x.kind x.region → Act m (with_server c (takes_pending x whole v) m)
+  PutPends : (c : Cluster) → is_paired c ≡ true → (v : Server) (x : Pending) → Served c m v x.region → used c v m + frame_length x.kind ≤ 65536 → x.ticket ≡ Some (length m.tickets + 1) → OfTable x.kind x.region → Act m (with_ticket c (with_server c (takes_pending x true v) m))
   EntriesCommit : (c : Cluster) → is_paired c ≡ true → (v new : Server) (xs : List Pending) (ts : List Ticket) → Committing c m v new xs ts → Act m (settled c v.number v.log xs (with_server c new (record m { tickets = ts })))
-  PeerJoins : (c : Cluster) → is_paired c ≡ true → (p : ℕ) (kind : Kind) (tables : List (List ℕ)) → peer_at p (of c m).peers ≡ None → Act m (peer_added c p kind tables m)
-  PeerStands : (c : Cluster) → is_paired c ≡ true → (x new : Peer) → peer_at new.number (of c m).peers ≡ Some x → is_removed new.standing ≡ is_removed x.standing → (is_synchronous new.kind ≡ true → is_synchronous x.kind ≡ true) → Act m (with_peer c new m)
+  -- the peer's tables stand in the other cluster
+  PeerJoins : (c : Cluster) → is_paired c ≡ true → (p : ℕ) (kind : Kind) (tables : List (List ℕ)) → peer_at p (of c m).peers ≡ None → AllByRecursion (HasTable (of (other c) m).tables) tables → Act m (peer_added c p kind tables m)
+  PeerStands : (c : Cluster) → is_paired c ≡ true → (x new : Peer) → peer_at new.number (of c m).peers ≡ Some x → is_removed new.standing ≡ is_removed x.standing → (is_synchronous new.kind ≡ true → is_synchronous x.kind ≡ true) → new.tables ≡ x.tables → Act m (with_peer c new m)
   -- a peer that isn't synchronous is removed, and its queues go
   PeerLeaves : (c : Cluster) → is_paired c ≡ true → (x : Peer) → peer_at x.number (of c m).peers ≡ Some x → is_synchronous x.kind ≡ false
       → Act m (with c (record (of c m) { peers = replace (is_peer x.number) (record x { standing = standing.Removed }) (of c m).peers; queues = other_queues x.number (of c m).queues }) m)

@@ -1,5 +1,5 @@
 -- Which acts the events of servers and logs are: server, put, sync, roll, crash, seal.
-use Rattle.std.proofs.Common.{ℕ, zero, suc, ◌+◌, ◌≤◌, ◌≡◌, ◌==◌, ◌&&◌, inl, inr, Bool, true, false, not, min, List, [], ◌∷◌, length, take, Some, None, is_some, is_none, refl, arith}
+use Rattle.std.proofs.Common.{ℕ, zero, suc, ◌+◌, ◌≤◌, ◌≡◌, ◌==◌, ◌&&◌, inl, inr, Bool, true, false, not, min, List, [], ◌∷◌, length, take, Some, None, is_some, is_none, refl, sym, arith}
 use Rattle.std.specs.List.{AllByRecursion}
 use Rattle.std.proofs.lemmas.Bool.{not-false, true≢false}
 use Rattle.std.proofs.lemmas.List.Sums.{sum_by-cons}
@@ -26,6 +26,7 @@ use Rattle.rep_model.specs.declared.machine.Pending.{Pending}
 use Rattle.rep_model.specs.declared.machine.Server.{Server}
 use Rattle.rep_laws.proofs.Lists.{all_in, All_taken, All_weaker}
 use Rattle.rep_laws.proofs.Steps.{if_some_true, if_some_false, not_some}
+use Rattle.rep_laws.proofs.DoesLogs.{seated}
 use Rattle.rep_laws.proofs.Acts.{IsDue, Acts, Nothing, act, acts_then, ServerJoins, ServerStands, ServerDies, PutPends, EntriesCommit}
 use Rattle.rep_laws.proofs.ActForms.{Acted, first_acted, fault_acted, simple_acted, given_acted, still_acted, given_acts, copy_acts, server_again, seat_served, has_room, broken_acts, synced_acts}
 
@@ -61,9 +62,9 @@ put_acted c pair table row cells said m = first_acted (put_refusals c table row 
     let room : (x : Seat) → seat c table row m ≡ Some x → used c x.server m + need ≤ 65536 =
     λ x q. has_room c x.server need m (if_some_false (seat c table row m) (λ (y : Seat). lacks_room c y.server need m) x q none.1.1.1.1.1.1.0) in
     fault_acted (fault_among (site c call.Append ∷ []) said) said
-    (λ _. given_acts (seat c table row m) m _ (λ x q. broken_acts c pair x.server (own_pending c x.region (kind.Write (put_edit table row cells)) None) m (seat_served c table row m x q) (room x q) refl))
+    (λ _. given_acts (seat c table row m) m _ (λ x q. broken_acts c pair x.server (own_pending c x.region (kind.Write (put_edit table row cells)) None) m (seat_served c table row m x q) (room x q) refl (sym (seated c table row m x q).name)))
     (given_acted (seat c table row m) still_acted (λ x q. record {
-      acts = act (PutPends c pair x.server (own_pending c x.region (kind.Write (put_edit table row cells)) (Some (length m.tickets + 1))) (seat_served c table row m x q) (room x q) refl);
+      acts = act (PutPends c pair x.server (own_pending c x.region (kind.Write (put_edit table row cells)) (Some (length m.tickets + 1))) (seat_served c table row m x q) (room x q) refl (sym (seated c table row m x q).name));
     })))
 
 nothing_more : (u : ℕ) → u ≤ 65536 → u + 0 ≤ 65536

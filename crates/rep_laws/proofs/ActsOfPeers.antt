@@ -1,6 +1,7 @@
 -- Which acts the events of peers, of changes of state and of promotions are, and a mirror.
-use Rattle.std.proofs.Common.{ℕ, ◌≡◌, ◌==◌, ◌&&◌, ◌||◌, Bool, true, false, not, List, [], ◌∷◌, Some, None, is_some, is_none, if◌then◌else◌, refl, ap, sym, ◌∙◌, subst}
-use Rattle.std.proofs.lemmas.Bool.{cond_both, false≢true}
+use Rattle.std.proofs.Common.{ℕ, inr, ◌≡◌, ◌==◌, ◌&&◌, ◌||◌, Bool, true, false, not, List, [], ◌∷◌, map, take, Option, Some, None, is_some, is_none, if◌then◌else◌, refl, ap, sym, ◌∙◌, subst}
+use Rattle.std.specs.List.{AllByRecursion, list_any}
+use Rattle.std.proofs.lemmas.Bool.{cond_both, or_parts, false≢true, true≢false}
 use Rattle.std.proofs.lemmas.Option.{none-some, same_Some}
 use Rattle.rep_types.specs.declared.ids.Cluster.{Cluster}
 use Rattle.rep_types.specs.declared.ids.Cluster.TheVariants as cluster
@@ -16,13 +17,17 @@ use Rattle.rep_model.specs.Keyed.{given, if_some, replace}
 use Rattle.rep_model.specs.State.{of, with, other, is_peer, server_of, with_peer, with_link}
 use Rattle.rep_model.specs.Words.{is_paired}
 use Rattle.rep_model.specs.Copies.{lowest_copy}
+use Rattle.rep_model.specs.Forms.{forms}
 use Rattle.rep_model.specs.Peers.{is_serial, is_synchronous, is_removed, is_active, is_standby, is_idle, peer_of}
+use Rattle.rep_model.specs.Places.{table_of}
 use Rattle.rep_model.specs.Tickets.{tell_waiting}
 use Rattle.rep_model.specs.LogEvents.{live_refusals, log_of, kept_of}
-use Rattle.rep_model.specs.PeerEvents.{peer_refusals, peer_row, enable_row, disable_row, remove_row, make_serial_row, current_copy, is_standing, mirror_sites, mirror_row, sweepable, copy_needer, sweep_remote_row, synchronous_refusals, is_allowed, with_phase, transit_begin_row, target_of, unready, restarted_side, changed_to, transit_end_row, lacks_folder, make_folder_row}
-use Rattle.rep_model.specs.PromotionEvents.{is_replaying, kept_entries, promote_begin_row, replay_row, promote_end_row}
+use Rattle.rep_model.specs.PeerEvents.{lacks_table, peer_refusals, peer_row, enable_row, disable_row, remove_row, make_serial_row, current_copy, is_standing, mirror_sites, mirror_row, sweepable, copy_needer, sweep_remote_row, synchronous_refusals, is_allowed, with_phase, transit_begin_row, target_of, unready, restarted_side, changed_to, transit_end_row, lacks_folder, make_folder_row}
+use Rattle.rep_model.specs.PromotionEvents.{covered_tables, is_replaying, kept_entries, promote_begin_row, replay_row, promote_end_row}
 use Rattle.rep_model.specs.Row.{site, run_sites, fault_among}
 use Rattle.rep_model.specs.declared.machine.Machine.{Machine}
+use Rattle.rep_model.specs.declared.machine.Table.{Table}
+use Rattle.rep_model.specs.declared.machine.Written.{Written}
 use Rattle.rep_model.specs.declared.machine.Peer.{Peer}
 use Rattle.rep_model.specs.declared.machine.Link.{Link}
 use Rattle.rep_model.specs.declared.machine.RemoteCopy.{RemoteCopy}
@@ -31,25 +36,35 @@ use Rattle.rep_model.specs.declared.machine.Standing.TheVariants as standing
 use Rattle.rep_model.specs.declared.machine.Ticket.{Ticket}
 use Rattle.rep_model.specs.declared.machine.Told.{Told}
 use Rattle.rep_model.specs.declared.machine.Told.TheVariants as told
+use Rattle.rep_laws.proofs.Lists.{All_append, All_weaker}
 use Rattle.rep_laws.proofs.Flow.{peer_at}
 use Rattle.rep_laws.proofs.SerialPart.{found_number}
 use Rattle.rep_laws.proofs.Sides.{other_paired, tickets_with}
-use Rattle.rep_laws.proofs.Moves.{other_queues, replayed}
+use Rattle.rep_laws.proofs.Moves.{other_queues, written_form, replayed}
 use Rattle.rep_laws.proofs.Steps.{not_some, not_none, if_some_false}
 use Rattle.rep_laws.proofs.DoesQueues.{given_is}
 use Rattle.rep_laws.proofs.DoesPeers.{peer_there, peer_here, is_nothing}
-use Rattle.rep_laws.proofs.Acts.{Acts, Nothing, act, acts_then, LinkStands, TicketsEnd, PeerJoins, PeerStands, PeerLeaves, PeersRestart}
-use Rattle.rep_laws.proofs.ActForms.{Acted, first_acted, fault_acted, simple_acted, given_acted, still_acted, given_acts}
+use Rattle.rep_laws.proofs.Acts.{HasTable, Writable, Replayable, Acts, Nothing, act, acts_then, LinkStands, TicketsEnd, PeerJoins, PeerStands, PeerLeaves, PeersRestart}
+use Rattle.rep_laws.proofs.ActForms.{Acted, first_acted, fault_acted, simple_acted, given_acted, still_acted, given_acts, still_written}
 
 -- a cluster's link stands as said
 pub link_acts : (c : Cluster) → is_paired c ≡ true → (link : Link) (m : Machine) → Acts m (with_link c link m)
-link_acts c pair link m = act (LinkStands c pair (of c m).written link)
+link_acts c pair link m = act (LinkStands c pair (of c m).written link (still_written c m))
 
 -- peers
 
+there_too : (o p : Option Table) → (is_none o || is_none p) ≡ false → is_some p ≡ true
+there_too o None h = absurd (true≢false (or_parts (is_none o) true h).1)
+there_too o (Some t) h = refl
+
+-- tables that neither cluster lacks stand in the other one
+tables_there : (c : Cluster) (m : Machine) (tables : List (List ℕ)) → list_any (lacks_table c m) tables ≡ false → AllByRecursion (HasTable (of (other c) m).tables) tables
+tables_there c m [] h = tt
+tables_there c m (t ∷ ts) h = let p = or_parts _ _ h in (there_too (table_of c t m) (table_of (other c) t m) p.0, tables_there c m ts p.1)
+
 pub peer_acted : (c : Cluster) → is_paired c ≡ true → (p : ℕ) (kind : Kind) (tables : List (List ℕ)) (said : Reply) (m : Machine) → Acted m (peer_row c p kind tables said m)
 unfolding peer_row
-peer_acted c pair p kind tables said m = simple_acted (peer_refusals c p kind tables m) (site c call.Put ∷ []) said (λ none. record { acts = act (PeerJoins c pair p kind tables (not_some _ none.0)) })
+peer_acted c pair p kind tables said m = simple_acted (peer_refusals c p kind tables m) (site c call.Put ∷ []) said (λ none. record { acts = act (PeerJoins c pair p kind tables (not_some _ none.0) (tables_there c m tables none.1.0)) })
 
 -- a peer that is looked up isn't removed
 peer_stands : (c : Cluster) (p : ℕ) (m : Machine) (x : Peer) → peer_of c p m ≡ Some x → is_removed x.standing ≡ false
@@ -61,7 +76,7 @@ peer_stands c p m x e = by_found (peer_at p (of c m).peers) e
     by_found (Some y) q = cond_both (is_removed y.standing) None (Some y) (λ w. w ≡ Some x → is_removed x.standing ≡ false) (λ _ r. absurd (none-some x r)) (λ f r. sym (ap (λ (z : Peer). is_removed z.standing) (same_Some y x r)) ∙ f) q
 
 standing_acts : (c : Cluster) → is_paired c ≡ true → (p : ℕ) (to : Standing) (m : Machine) → is_removed to ≡ false → Acts m (given (peer_of c p m) m (λ x. with_peer c (record x { standing = to }) m))
-standing_acts c pair p to m stays = given_acts (peer_of c p m) m _ (λ x e. act (PeerStands c pair x (record x { standing = to }) (peer_here c p m x e) (stays ∙ sym (peer_stands c p m x e)) (λ h. h)))
+standing_acts c pair p to m stays = given_acts (peer_of c p m) m _ (λ x e. act (PeerStands c pair x (record x { standing = to }) (peer_here c p m x e) (stays ∙ sym (peer_stands c p m x e)) (λ h. h) refl))
 
 pub enable_acted : (c : Cluster) → is_paired c ≡ true → (p : ℕ) (said : Reply) (m : Machine) → Acted m (enable_row c p said m)
 unfolding enable_row
@@ -97,7 +112,7 @@ remove_acted c pair p said m = simple_acted ((is_none (peer_of c p m), refusal.N
 pub make_serial_acted : (c : Cluster) → is_paired c ≡ true → (p : ℕ) (said : Reply) (m : Machine) → Acted m (make_serial_row c p said m)
 unfolding make_serial_row
 make_serial_acted c pair p said m = simple_acted ((is_none (peer_of c p m), refusal.NoPeer) ∷ (of_kind is_synchronous c p m, refusal.IsSync) ∷ (of_kind is_serial c p m, refusal.IsSerial) ∷ []) (site c call.Put ∷ []) said
-    (λ _. record { acts = given_acts (peer_of c p m) m _ (λ x e. act (PeerStands c pair x _ (peer_here c p m x e) refl (λ h. absurd (false≢true h)))) })
+    (λ _. record { acts = given_acts (peer_of c p m) m _ (λ x e. act (PeerStands c pair x _ (peer_here c p m x e) refl (λ h. absurd (false≢true h)) refl)) })
 
 -- mirror and sweepremote
 
@@ -178,16 +193,18 @@ promote_begin_acted c pair said m =
     let link = (of c m).link in
     simple_acted (synchronous_refusals c (is_standby link.state && is_idle link.phase) m []) (site c call.Rename ∷ []) said (λ _. record { acts = link_acts c pair _ m })
 
-replayed_acts : (c : Cluster) → is_paired c ≡ true → (k : RemoteCopy) (n : ℕ) (m : Machine) → Acts m (replayed c k n m)
-replayed_acts c pair k n m = act (LinkStands c pair _ _)
+replayed_acts : (c : Cluster) → is_paired c ≡ true → (k : RemoteCopy) (n : ℕ) (m : Machine) → lowest_copy (of c m).link.replaying ≡ Some k → Replayable m → Acts m (replayed c k n m)
+replayed_acts c pair k n m lowest replays =
+    let more : List Written = map written_form (forms (other c) c (covered_tables (of (other c) m).peers) (take n k.offered)) in
+    act (LinkStands c pair _ _ (All_append (Writable (of c m).tables (of c m).written) (of c m).written more (still_written c m) (All_weaker (λ w h. inr h) more (replays c pair k n lowest))))
 
-pub replay_acted : (c : Cluster) → is_paired c ≡ true → (said : Reply) (m : Machine) → Acted m (replay_row c said m)
+pub replay_acted : (c : Cluster) → is_paired c ≡ true → (said : Reply) (m : Machine) → Replayable m → Acted m (replay_row c said m)
 unfolding replay_row
-replay_acted c pair said m =
+replay_acted c pair said m replays =
     let link = (of c m).link in
     simple_acted (synchronous_refusals c (is_replaying link.phase) m ((is_none (lowest_copy link.replaying), refusal.NoLog) ∷ []))
     (site c call.List ∷ site c call.Seal ∷ site c call.Read ∷ run_sites c (site c call.Put ∷ [])) said
-    (λ _. given_acted (lowest_copy link.replaying) still_acted (λ k _. record { acts = replayed_acts c pair k (kept_entries k (kept_of said)) m }))
+    (λ _. given_acted (lowest_copy link.replaying) still_acted (λ k e. record { acts = replayed_acts c pair k (kept_entries k (kept_of said)) m e replays }))
 
 pub promote_end_acted : (c : Cluster) → is_paired c ≡ true → (said : Reply) (m : Machine) → Acted m (promote_end_row c said m)
 unfolding promote_end_row

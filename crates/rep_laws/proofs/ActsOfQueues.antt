@@ -1,5 +1,5 @@
 -- Which acts the events of queues and flights are: send, deliver, lose, confirm, claim.
-use Rattle.std.proofs.Common.{ℕ, ◌+◌, ◌≤◌, ◌≡◌, ◌==◌, ◌&&◌, Bool, true, not, List, [], ◌∷◌, find, Option, Some, None, is_none, if◌then◌else◌, refl}
+use Rattle.std.proofs.Common.{ℕ, ◌+◌, ◌≤◌, ◌≡◌, ◌==◌, ◌&&◌, Bool, true, not, List, [], ◌∷◌, find, Option, Some, None, is_none, if◌then◌else◌, refl, sym}
 use Rattle.std.proofs.lemmas.Bool.{cond_both}
 use Rattle.rep_types.specs.declared.ids.Cluster.{Cluster}
 use Rattle.rep_types.specs.declared.entry.EntryKind.TheVariants as kind
@@ -29,6 +29,7 @@ use Rattle.rep_laws.proofs.Lists.{All_found}
 use Rattle.rep_laws.proofs.SerialPart.{found_again}
 use Rattle.rep_laws.proofs.Sides.{other_paired}
 use Rattle.rep_laws.proofs.Steps.{not_none}
+use Rattle.rep_laws.proofs.DoesLogs.{seated}
 use Rattle.rep_laws.proofs.DoesQueues.{AllPaired}
 use Rattle.rep_laws.proofs.Acts.{Served, Acts, Nothing, act, acts_then, PeerStands, QueueStands, FlightJoins, FlightStands}
 use Rattle.rep_laws.proofs.ActForms.{Acted, unless_acted, first_acted, fault_acted, simple_acted, given_acted, still_acted, given_acts, flown_acts, seat_served, has_room, broken_acts, synced_one}
@@ -64,12 +65,12 @@ finds p form c i failed (Some x) m rest =
 abbrev Leads : (Machine → Delivery) → Type 0
 Leads rest = (m : Machine) → Acts m (rest m).left
 
-comes_acts : (p : ℕ) (x : Form) (c : Cluster) → is_paired c ≡ true → (i : ℕ) (o : Option Cause) (s : Seat) (m : Machine) (rest : Machine → Delivery) → Served c m s.server s.region → used c s.server m + frame_length (kind.Write x.edit) ≤ 65536 → Leads rest
+comes_acts : (p : ℕ) (x : Form) (c : Cluster) → is_paired c ≡ true → (i : ℕ) (o : Option Cause) (s : Seat) (m : Machine) (rest : Machine → Delivery) → Served c m s.server s.region → used c s.server m + frame_length (kind.Write x.edit) ≤ 65536 → x.edit.table ≡ s.region.table.name → Leads rest
     → Acts m (comes p x c i o s m rest).left
-comes_acts p x c pair i None s m rest served room leads = acts_then (synced_one c pair s.server (arrival p s x) m served room refl) (leads (synced_with c s.server (arrival p s x ∷ []) m))
-comes_acts p x c pair i (Some why) s m rest served room leads = broken_acts c pair s.server (arrival p s x) m served room refl
+comes_acts p x c pair i None s m rest served room titled leads = acts_then (synced_one c pair s.server (arrival p s x) m served room refl titled) (leads (synced_with c s.server (arrival p s x ∷ []) m))
+comes_acts p x c pair i (Some why) s m rest served room titled leads = broken_acts c pair s.server (arrival p s x) m served room refl titled
 
-finds_acts : (p : ℕ) (x : Form) (c : Cluster) → is_paired c ≡ true → (i : ℕ) (failed : Option Failing) (o : Option Seat) (m : Machine) (rest : Machine → Delivery) → ((s : Seat) → o ≡ Some s → Served c m s.server s.region) → Leads rest
+finds_acts : (p : ℕ) (x : Form) (c : Cluster) → is_paired c ≡ true → (i : ℕ) (failed : Option Failing) (o : Option Seat) (m : Machine) (rest : Machine → Delivery) → ((s : Seat) → o ≡ Some s → Served c m s.server s.region × (x.edit.table ≡ s.region.table.name)) → Leads rest
     → Acts m (finds p x c i failed o m rest).left
 finds_acts p x c pair i failed None m rest served leads = Nothing
 finds_acts p x c pair i failed (Some s) m rest served leads =
@@ -77,14 +78,14 @@ finds_acts p x c pair i failed (Some s) m rest served leads =
     (λ _. Nothing)
     (λ _. cond_both (lacks_room c s.server (frame_length (kind.Write x.edit)) m) _ _ (λ (d : Delivery). Acts m d.left)
     (λ _. Nothing)
-    (λ f. comes_acts p x c pair i (fails_at failed i) s m rest (served s refl) (has_room c s.server (frame_length (kind.Write x.edit)) m f) leads))
+    (λ f. comes_acts p x c pair i (fails_at failed i) s m rest (served s refl).0 (has_room c s.server (frame_length (kind.Write x.edit)) m f) (served s refl).1 leads))
 
 delivered_acts : (p : ℕ) (synchronous : Bool) (c : Cluster) → is_paired c ≡ true → (failed : Option Failing) (i : ℕ) (xs : List Form) (m : Machine) → Acts m (delivered p synchronous c failed i xs m).left
 delivered_acts p synchronous c pair failed i [] m = Nothing
 delivered_acts p synchronous c pair failed i (x ∷ xs) m =
     cond_both (synchronous && not (is_standby (of c m).link.state)) _ _ (λ (d : Delivery). Acts m d.left)
     (λ _. Nothing)
-    (λ _. finds_acts p x c pair i failed (seat c x.edit.table x.edit.row m) m (delivered p synchronous c failed (i + 1) xs) (λ s e. seat_served c x.edit.table x.edit.row m s e) (λ n. delivered_acts p synchronous c pair failed (i + 1) xs n))
+    (λ _. finds_acts p x c pair i failed (seat c x.edit.table x.edit.row m) m (delivered p synchronous c failed (i + 1) xs) (λ s e. (seat_served c x.edit.table x.edit.row m s e, sym (seated c x.edit.table x.edit.row m s e).name)) (λ n. delivered_acts p synchronous c pair failed (i + 1) xs n))
 
 abbrev delivery_row : ℕ → Machine → Delivery → Option Cause → Row
 delivery_row k m d None = record { reply = reply.All d.arrived (acks m d.left); state = with_delivered k d.left }
@@ -116,7 +117,7 @@ lose_acted k said m pairs =
     (λ _. given_acted (flight_of k m) still_acted (λ f e. record { acts = flown_acts f.cluster (All_found _ (is_flight k) m.flights f e pairs) f.peer f.server None m }))
 
 recorded_acts : (c : Cluster) → is_paired c ≡ true → (p : ℕ) (entries : List Commit) (m : Machine) → Acts m (recorded c p entries m)
-recorded_acts c pair p entries m = given_acts (find (is_peer p) (of c m).peers) m _ (λ x e. act (PeerStands c pair x _ (found_again p (of c m).peers x e) refl (λ h. h)))
+recorded_acts c pair p entries m = given_acts (find (is_peer p) (of c m).peers) m _ (λ x e. act (PeerStands c pair x _ (found_again p (of c m).peers x e) refl (λ h. h) refl))
 
 pub confirm_acted : (k : ℕ) (said : Reply) (m : Machine) → AllPaired m.flights → Acted m (confirm_row k said m)
 unfolding confirm_row

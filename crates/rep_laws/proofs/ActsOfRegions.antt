@@ -20,7 +20,7 @@ use Rattle.rep_model.specs.State.{of, with, is_server, is_region, server_of, reg
 use Rattle.rep_model.specs.Words.{is_paired}
 use Rattle.rep_model.specs.Regions.{is_adjacent}
 use Rattle.rep_model.specs.Commits.{settled, settled_one}
-use Rattle.rep_model.specs.Places.{is_off, opens_at, on_at, closes_at, lost_at, table_of, is_closed, used, lacks_room}
+use Rattle.rep_model.specs.Places.{is_off, opens_at, on_at, closes_at, lost_at, is_named, table_of, is_closed, used, lacks_room}
 use Rattle.rep_model.specs.Needs.{log_needer}
 use Rattle.rep_model.specs.LogEvents.{own_pending, broken_by, emptied, synced_with}
 use Rattle.rep_model.specs.RegionEvents.{too_many, table_row, place_of, moved, barrier, opened, open_begin_row, Marking, marking, marker_refusals, marked_at, open_end_row, close_begin_row, close_end_row, flushed, recover_row, flush_row, compact_row, splits, split_row, merge_row, has_no_log, sweep_row}
@@ -28,23 +28,32 @@ use Rattle.rep_model.specs.Row.{site, run_sites, fault_among, is_put}
 use Rattle.rep_model.specs.declared.machine.Machine.{Machine}
 use Rattle.rep_model.specs.declared.machine.Side.{Side}
 use Rattle.rep_model.specs.declared.machine.Pending.{Pending}
+use Rattle.rep_model.specs.declared.machine.Table.{Table}
 use Rattle.rep_model.specs.declared.machine.Hosted.{Hosted}
 use Rattle.rep_model.specs.declared.machine.Region.{Region}
 use Rattle.rep_model.specs.declared.machine.Server.{Server}
-use Rattle.rep_laws.proofs.Finding.{find_replaced, find_elsewhere}
+use Rattle.rep_laws.proofs.Finding.{find_replaced, find_elsewhere, find_more}
 use Rattle.rep_laws.proofs.FrontMoves.{length_replaced}
 use Rattle.rep_laws.proofs.Sides.{of_with}
 use Rattle.rep_laws.proofs.Steps.{if_some_true, if_some_false, given_some, not_none}
 use Rattle.rep_laws.proofs.DoesQueues.{given_is}
 use Rattle.rep_laws.proofs.DoesRegions.{placed_refusals, region_in}
 use Rattle.rep_laws.proofs.Numbering.{Numbered}
-use Rattle.rep_laws.proofs.Acts.{works_at, is_at, Served, Turns, Stays, Opens, Opened, Closes, Leaves, Retires, StaysGone, Act, Acts, act, acts_then, ServerStands, RegionsJoin, RegionTurns}
+use Rattle.rep_laws.proofs.Acts.{works_at, is_at, HasTable, OfTable, Served, Turns, Stays, Opens, Opened, Closes, Leaves, Retires, StaysGone, Act, Acts, act, acts_then, ServerStands, RegionsJoin, RegionTurns}
 use Rattle.rep_laws.proofs.ActForms.{Acted, first_acted, fault_acted, simple_acted, given_acted, still_acted, given_acts, server_number, server_again, region_again, on_is, opens_is, closes_is, lost_is, off_is, has_room, broken_acts, synced_one}
+
+some_there : {X : Type 0} (o : Option X) → is_some o ≡ true → (x : X) × (o ≡ Some x)
+some_there None h = absurd (false≢true h)
+some_there (Some x) h = (x, refl)
+
+-- a table that stood stands behind more
+still_named : (name : List ℕ) (tables more : List Table) → HasTable tables name → HasTable (tables ++ more) name
+still_named name tables more h = let t = some_there (find (is_named name) tables) h in ap (λ (o : Option Table). is_some o) (find_more (is_named name) t.0 tables more t.1)
 
 pub table_acted : (c : Cluster) → is_paired c ≡ true → (name : List ℕ) (families : List Family) (said : Reply) (m : Machine) → Acted m (table_row c name families said m)
 unfolding table_row
 table_acted c pair name families said m = simple_acted ((is_some (table_of c name m), refusal.Exists) ∷ (too_many c 1 m, refusal.TooMany) ∷ []) (site c call.Put ∷ []) said
-    (λ _. record { acts = act (RegionsJoin c pair _ _ (refl, tt) (refl, tt)) })
+    (λ _. record { acts = act (RegionsJoin c pair _ _ (refl, tt) (refl, tt) (λ n h. still_named n (of c m).tables _ h)) })
 
 -- the region's place, where it is there
 place_there : (c : Cluster) (r : ℕ) (m : Machine) (h : Hosted) → region_of c r m ≡ Some h → place_of c r m ≡ h.place
@@ -103,9 +112,9 @@ settled_servers cluster.B s l (p ∷ ps) m = settled_servers cluster.B s l ps (s
 settled_servers cluster.C s l (p ∷ ps) m = settled_servers cluster.C s l ps (settled_one cluster.C s l p m)
 
 -- the marker is committed, and then the region moves
-marked_acts : (c : Cluster) → is_paired c ≡ true → (x : Marking) (k : EntryKind) (to : PlaceOf) (m : Machine) → Served c m x.server x.hosted.region → used c x.server m + frame_length k ≤ 65536 → region_of c x.hosted.region.number m ≡ Some x.hosted
+marked_acts : (c : Cluster) → is_paired c ≡ true → (x : Marking) (k : EntryKind) (to : PlaceOf) (m : Machine) → Served c m x.server x.hosted.region → used c x.server m + frame_length k ≤ 65536 → OfTable k x.hosted.region → region_of c x.hosted.region.number m ≡ Some x.hosted
     → ((n : Machine) → server_of c x.server.number n ≡ Some (emptied x.server) → Turns c n x.hosted.place to) → Acts m (marked_at c x k to m)
-marked_acts c pair x k to m s room there turns =
+marked_acts c pair x k to m s room titled there turns =
     let v : Server = x.server in
     let p : Pending = own_pending c x.hosted.region k None in
     let new : Hosted = moved to x.hosted in
@@ -118,13 +127,13 @@ marked_acts c pair x k to m s room there turns =
     ap (λ (w : List Server). find (is_server v.number) w) (settled_servers c v.number v.log (v.pending ++ p ∷ []) m1 ∙ ap (λ (w : Side). w.servers) (of_with c side m))
     ∙ find_replaced (is_server v.number) (emptied v) v (of c m).servers (eq-eqb v.number v.number refl) s.found in
     subst (Acts m) (sym (ap (settled c v.number v.log (v.pending ++ p ∷ [])) (turned c new (emptied v) m) ∙ settled_turned c v.number v.log (v.pending ++ p ∷ []) new m1))
-    (acts_then (synced_one c pair v p m s room refl) (act (RegionTurns c pair x.hosted new found refl (turns mid empty))))
+    (acts_then (synced_one c pair v p m s room refl titled) (act (RegionTurns c pair x.hosted new found refl (turns mid empty))))
 
 -- what a failed call leaves of a marker: it is committed, or pending in a broken log
-failed_acts : (committed : Bool) (c : Cluster) → is_paired c ≡ true → (x : Marking) (k : EntryKind) (m : Machine) → Served c m x.server x.hosted.region → used c x.server m + frame_length k ≤ 65536
+failed_acts : (committed : Bool) (c : Cluster) → is_paired c ≡ true → (x : Marking) (k : EntryKind) (m : Machine) → Served c m x.server x.hosted.region → used c x.server m + frame_length k ≤ 65536 → OfTable k x.hosted.region
     → Acts m (if committed then synced_with c x.server (own_pending c x.hosted.region k None ∷ []) m else broken_by c x.server (own_pending c x.hosted.region k None) m)
-failed_acts true c pair x k m s room = synced_one c pair x.server (own_pending c x.hosted.region k None) m s room refl
-failed_acts false c pair x k m s room = broken_acts c pair x.server (own_pending c x.hosted.region k None) m s room refl
+failed_acts true c pair x k m s room titled = synced_one c pair x.server (own_pending c x.hosted.region k None) m s room refl titled
+failed_acts false c pair x k m s room titled = broken_acts c pair x.server (own_pending c x.hosted.region k None) m s room refl titled
 
 -- a marker's server has room, and serves its region
 marker_room : (at : PlaceOf → Option ℕ) (c : Cluster) (r : ℕ) (m : Machine) (x : Marking) → marking at c r m ≡ Some x → AllByRecursion (λ (q : Bool × Refusal). q.0 ≡ false) (marker_refusals at c r m) → used c x.server m + 32 ≤ 65536
@@ -140,9 +149,9 @@ open_end_acted c pair r said m = first_acted (marker_refusals opens_at c r m) (�
     let served : (x : Marking) → marking opens_at c r m ≡ Some x → Served c m x.server x.hosted.region =
     λ x e. served_by opens_at c m x (marked_there opens_at c r m x e) (ap (works_at x.server.number) (is x e) ∙ eq-eqb x.server.number x.server.number refl) in
     fault_acted (fault_among (site c call.Append ∷ site c call.Sync ∷ []) said) said
-    (λ f. given_acts (marking opens_at c r m) m _ (λ x e. failed_acts (is_put f.call) c pair x kind.Opened m (served x e) (marker_room opens_at c r m x e none)))
+    (λ f. given_acts (marking opens_at c r m) m _ (λ x e. failed_acts (is_put f.call) c pair x kind.Opened m (served x e) (marker_room opens_at c r m x e none) tt))
     (given_acted (marking opens_at c r m) still_acted (λ x e. record {
-      acts = marked_acts c pair x kind.Opened (place.On x.server.number) m (served x e) (marker_room opens_at c r m x e none) (marked_there opens_at c r m x e).region
+      acts = marked_acts c pair x kind.Opened (place.On x.server.number) m (served x e) (marker_room opens_at c r m x e none) tt (marked_there opens_at c r m x e).region
           (λ n _. subst (λ p. Turns c n p (place.On x.server.number)) (sym (is x e)) (Opened x.server.number));
     })))
 
@@ -160,9 +169,9 @@ close_end_acted c pair r said m = first_acted (marker_refusals closes_at c r m) 
     let served : (x : Marking) → marking closes_at c r m ≡ Some x → Served c m x.server x.hosted.region =
     λ x e. served_by closes_at c m x (marked_there closes_at c r m x e) (ap (works_at x.server.number) (is x e) ∙ eq-eqb x.server.number x.server.number refl) in
     fault_acted (fault_among (site c call.Append ∷ site c call.Sync ∷ site c call.Put ∷ []) said) said
-    (λ f. given_acts (marking closes_at c r m) m _ (λ x e. failed_acts (is_put f.call) c pair x kind.Closed m (served x e) (marker_room closes_at c r m x e none)))
+    (λ f. given_acts (marking closes_at c r m) m _ (λ x e. failed_acts (is_put f.call) c pair x kind.Closed m (served x e) (marker_room closes_at c r m x e none) tt))
     (given_acted (marking closes_at c r m) still_acted (λ x e. record {
-      acts = marked_acts c pair x kind.Closed place.Off m (served x e) (marker_room closes_at c r m x e none) (marked_there closes_at c r m x e).region
+      acts = marked_acts c pair x kind.Closed place.Off m (served x e) (marker_room closes_at c r m x e none) tt (marked_there closes_at c r m x e).region
           (λ n empty. Leaves x.hosted.place x.server.number (emptied x.server) (ap (is_at x.server.number) (is x e) ∙ eq-eqb x.server.number x.server.number refl) empty (inl refl));
     })))
 
@@ -170,10 +179,6 @@ close_end_acted c pair r said m = first_acted (marker_refusals closes_at c r m) 
 
 abbrev lost_server : Cluster → ℕ → Machine → ℕ
 lost_server c r m = given (lost_at (place_of c r m)) 0 (λ s. s)
-
-some_there : {X : Type 0} (o : Option X) → is_some o ≡ true → (x : X) × (o ≡ Some x)
-some_there None h = absurd (false≢true h)
-some_there (Some x) h = (x, refl)
 
 if_some_there : {X : Type 0} (o : Option X) (test : X → Bool) → if_some o test ≡ true → (x : X) × (o ≡ Some x) × (test x ≡ true)
 unfolding given
@@ -238,7 +243,7 @@ split_acted c pair r key said m = simple_acted (placed_refusals c r (is_off (pla
     let m1 : Machine = with_region c (retired c r m h) m in
     record {
       acts = acts_then (act (RegionTurns c pair h (retired c r m h) (region_again c r m h e) refl (retires c r m h e (not-false _ none.1.0))))
-          (act (RegionsJoin c pair (of c m1).tables _ (two_numbered (length (of c m1).regions) (length (of c m).regions) (still_long c (retired c r m h) m)) (refl, (refl, tt))));
+          (act (RegionsJoin c pair (of c m1).tables _ (two_numbered (length (of c m1).regions) (length (of c m).regions) (still_long c (retired c r m h) m)) (refl, (refl, tt)) (λ n q. q)));
     }))
 
 -- the second of two regions retires behind the first, which may be the same
@@ -289,7 +294,7 @@ merge_acted c pair r s said m = simple_acted (
     record {
       acts = acts_then (acts_then (act (RegionTurns c pair g gone (region_again c r m g e) refl (retires c r m g e (not-false _ none.1.1.0))))
           (act (retires_behind c pair g h gone new m (region_again c r m g e) (region_again c s m h f) refl refl refl refl off)))
-          (act (RegionsJoin c pair (of c m2).tables _ (one_numbered (length (of c m2).regions) (length (of c m).regions) (still_long c new m1 ∙ still_long c gone m)) (refl, tt)));
+          (act (RegionsJoin c pair (of c m2).tables _ (one_numbered (length (of c m2).regions) (length (of c m).regions) (still_long c new m1 ∙ still_long c gone m)) (refl, tt) (λ n q. q)));
     })))
 
 -- sweep

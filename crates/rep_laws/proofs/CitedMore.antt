@@ -1,9 +1,12 @@
 -- What else holds of the state after a legal list of records, as other crates may cite it: where regions and entries stand, and what look-ups find.
-use Rattle.std.proofs.Common.{ℕ, suc, ◌+◌, ◌-◌, ◌≤◌, ◌≡◌, ◌==◌, ◌&&◌, inl, inr, Bool, true, false, List, [], ◌∷◌, ◌++◌, find, Some, None, slice_get, refl, ap, sym, ◌∙◌, subst, arith, append_assoc, append-nil, eq-eqb, sum_by}
+use Rattle.std.proofs.Common.{ℕ, suc, ◌+◌, ◌-◌, ◌≤◌, ◌≡◌, ◌==◌, ◌&&◌, inl, inr, Bool, true, false, List, [], ◌∷◌, ◌++◌, find, Option, Some, None, is_some, slice_get, refl, ap, sym, ◌∙◌, subst, arith, append_assoc, append-nil, eq-eqb, sum_by}
 use Rattle.std.proofs.lemmas.Bool.{cond_both, and_from, eqb-false}
 use Rattle.std.proofs.lemmas.Option.{same_Some}
 use Rattle.std.proofs.lemmas.List.Sums.{sum_by-cons}
 use Rattle.rep_types.specs.declared.ids.Cluster.{Cluster}
+use Rattle.rep_types.specs.Edit.{EditValue}
+use Rattle.rep_types.specs.declared.entry.EntryKind.{EntryKind}
+use Rattle.rep_types.specs.declared.entry.EntryKind.TheVariants as kind
 use Rattle.rep_types.specs.declared.record.Record.{Record}
 use Rattle.rep_model.specs.State.{of, is_server, is_region, is_peer, is_flight, is_queue, server_of, queue_of}
 use Rattle.rep_model.specs.Words.{is_paired}
@@ -17,6 +20,9 @@ use Rattle.rep_model.specs.declared.machine.Machine.{Machine}
 use Rattle.rep_model.specs.declared.machine.Commit.{Commit}
 use Rattle.rep_model.specs.declared.machine.Pending.{Pending}
 use Rattle.rep_model.specs.declared.machine.Hosted.{Hosted}
+use Rattle.rep_model.specs.declared.machine.Region.{Region}
+use Rattle.rep_model.specs.declared.machine.Table.{Table}
+use Rattle.rep_model.specs.declared.machine.Written.{Written}
 use Rattle.rep_model.specs.declared.machine.Server.{Server}
 use Rattle.rep_model.specs.declared.machine.Peer.{Peer}
 use Rattle.rep_model.specs.declared.machine.Queue.{Queue}
@@ -32,13 +38,14 @@ use Rattle.rep_laws.proofs.SoundPart.{Declared, sound_at}
 use Rattle.rep_laws.proofs.FrontPart.{front_at}
 use Rattle.rep_laws.proofs.Lawful.{Lawful, lawful_journal}
 use Rattle.rep_laws.proofs.Numbering.{found_key, find_slot, find_below}
-use Rattle.rep_laws.proofs.Acts.{works_at, is_at}
+use Rattle.rep_laws.proofs.Acts.{works_at, is_at, HasTable, OfTable}
 use Rattle.rep_laws.proofs.ActForms.{server_number}
 use Rattle.rep_laws.proofs.Slots.{told_of}
 use Rattle.rep_laws.proofs.PromisePart.{Promised, AllPromised, Precedes, Rises, promises_at}
 use Rattle.rep_laws.proofs.LogsPart.{InLog, LogsRise, Sequenced, used_of, logged_at}
 use Rattle.rep_laws.proofs.QueuesPart.{Unremoved, queued_at, queue_found}
 use Rattle.rep_laws.proofs.SeatPart.{Works, Known, Placed, Rests, AllPlaced, SeatIn, seats_at, server_found, region_found}
+use Rattle.rep_laws.proofs.TablesPart.{AllTabled, Titled, TableIn, tabled_at}
 use Rattle.rep_laws.proofs.Steady.{Steady, steady_journal}
 
 -- a server of this number stands
@@ -234,3 +241,27 @@ module _ (journal : List Record) (legal : IsLegal journal) where
 
   pub pending_frame_fits : (c : Cluster) → is_paired c ≡ true → (v : Server) → In v (of c (state_of journal)).servers → (x : Pending) → In x v.pending → frame_length x.kind ≤ 65536
   pending_frame_fits c pair v i x j = part (commits_length (log_commits v.number v.log (of c now).commits)) (frame_length x.kind) (pending_length v.pending) (one_of_sum (λ (y : Pending). frame_length y.kind) x v.pending j) (frames_fit c pair v i)
+
+  tables : (c : Cluster) → is_paired c ≡ true → TableIn (of c now)
+  tables c pair = tabled_at c pair now kept.tabled
+
+  -- the edit of a pending entry is of its region's table, and so is that of a commit
+  pub pending_edit_is_known : (c : Cluster) → is_paired c ≡ true → (v : Server) → In v (of c (state_of journal)).servers → (x : Pending) → In x v.pending → (e : EditValue) → x.kind ≡ kind.Write e → e.table ≡ x.region.table.name
+  pending_edit_is_known c pair v i x j e is = subst (λ (k : EntryKind). OfTable k x.region) is (in_all (λ (y : Pending). OfTable y.kind y.region) x v.pending j (in_all AllTabled v (of c now).servers i (tables c pair).pending))
+
+  pub commit_edit_is_known : (c : Cluster) → is_paired c ≡ true → (x : Commit) → In x (of c (state_of journal)).commits → (e : EditValue) → x.kind ≡ kind.Write e → e.table ≡ x.region.table.name
+  commit_edit_is_known c pair x i e is = subst (λ (k : EntryKind). OfTable k x.region) is (in_all (λ (y : Commit). OfTable y.kind y.region) x (of c now).commits i (tables c pair).committed)
+
+  -- the table of a commit's region stands
+  commit_table_is_known : (c : Cluster) → is_paired c ≡ true → (x : Commit) → In x (of c now).commits → HasTable (of c now).tables x.region.table.name
+  commit_table_is_known c pair x i =
+      let h = regions_are_known c pair x i in
+      let there = hosted_table_is_found c pair h.0 (found_in (is_region x.region.number) (of c now).regions h.0 h.1) in
+      subst (λ (r : Region). HasTable (of c now).tables r.table.name) h.2 (ap (λ (o : Option Table). is_some o) there)
+
+  -- the table of what is written stands
+  pub written_is_known : (c : Cluster) → is_paired c ≡ true → (w : Written) → In w (of c (state_of journal)).written → is_some (find (is_named w.edit.table) (of c (state_of journal)).tables) ≡ true
+  written_is_known c pair w i = elim (in_all (Titled (of c now).tables (of c now).commits) w (of c now).written i (tables c pair).written) [
+    | inl t ↦ subst (λ (name : List ℕ). HasTable (of c now).tables name) (sym t.2) (commit_table_is_known c pair t.0 t.1)
+    | inr h ↦ h
+  ]

@@ -56,5 +56,6 @@ pub mod Slots
 pub mod PromisePart
 pub mod QueuesPart
 pub mod LogsPart
+pub mod TablesPart
 pub mod Steady
 pub mod CitedMore

@@ -294,21 +294,21 @@ come_logged {servers} {K} s dual none o =
     empty_fits n e = omega arith
 
 pub act_logged : (m new : Machine) → Act m new → Seats m → Logged m → Logged new
-act_logged m new (LinkStands c pair ws link) seats k = logged_with c pair _ m (logged_at c pair m k) k
+act_logged m new (LinkStands c pair ws link items) seats k = logged_with c pair _ m (logged_at c pair m k) k
 act_logged m new (TicketsEnd c test to) seats k = logged_tickets m _ k
 act_logged m new (ServerJoins c pair s none) seats k = logged_with c pair _ m (come_logged s (is_dual c m) none (logged_at c pair m k)) k
 act_logged m new (ServerStands c pair v whole lowest found) seats k = let o = logged_at c pair m k in
     logged_with c pair _ m (server_logged v (record v { whole = whole; lowest = lowest }) found refl (All_found (λ (w : Server). used_of (of c m).commits w ≤ 65536) (is_server v.number) (of c m).servers v found o.room) o) k
 act_logged m new (ServerDies c pair v found live) seats k = let o = logged_at c pair m k in
     logged_tickets _ _ (logged_with c pair _ m (server_logged v (record v { live = false }) found refl (All_found (λ (w : Server). used_of (of c m).commits w ≤ 65536) (is_server v.number) (of c m).servers v found o.room) o) k)
-act_logged m new (RegionsJoin c pair tables hs behind off) seats k = logged_with c pair _ m (logged_at c pair m k) k
+act_logged m new (RegionsJoin c pair tables hs behind off more) seats k = logged_with c pair _ m (logged_at c pair m k) k
 act_logged m new (RegionTurns c pair h to found same turns) seats k = logged_with c pair _ m (logged_at c pair m k) k
-act_logged m new (EntryPends c pair v x whole served room none) seats k = logged_with c pair _ m (pend_logged v x whole served.found room (logged_at c pair m k)) k
-act_logged m new (PutPends c pair v x served room ticket) seats k = logged_tickets _ _ (logged_with c pair _ m (pend_logged v x true served.found room (logged_at c pair m k)) k)
+act_logged m new (EntryPends c pair v x whole served room none titled) seats k = logged_with c pair _ m (pend_logged v x whole served.found room (logged_at c pair m k)) k
+act_logged m new (PutPends c pair v x served room ticket titled) seats k = logged_tickets _ _ (logged_with c pair _ m (pend_logged v x true served.found room (logged_at c pair m k)) k)
 act_logged m new (EntriesCommit c pair v to xs ts commits) seats k =
     subst Logged (sym (entries_committed c v.number v.log to xs ts m)) (logged_tickets _ _ (logged_with c pair _ m (commit_logged c m v to xs ts commits (seats_at c pair m seats) (logged_at c pair m k)) k))
-act_logged m new (PeerJoins c pair p kind tables none) seats k = logged_with c pair _ m (logged_at c pair m k) k
-act_logged m new (PeerStands c pair x to found same sync) seats k = logged_with c pair _ m (logged_at c pair m k) k
+act_logged m new (PeerJoins c pair p kind tables none there) seats k = logged_with c pair _ m (logged_at c pair m k) k
+act_logged m new (PeerStands c pair x to found same sync covers) seats k = logged_with c pair _ m (logged_at c pair m k) k
 act_logged m new (PeerLeaves c pair x found plain) seats k = logged_with c pair _ m (logged_at c pair m k) k
 act_logged m new (PeersRestart c pair) seats k = logged_with c pair _ m (logged_at c pair m k) k
 act_logged m new (QueueStands c pair q to found) seats k = logged_with c pair _ m (logged_at c pair m k) k

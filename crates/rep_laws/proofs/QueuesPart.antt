@@ -274,20 +274,20 @@ queue_found q (r ∷ qs) u i = elim i [
 ]
 
 pub act_queued : (m new : Machine) → Act m new → Queued m → Queued new
-act_queued m new (LinkStands c pair ws link) k = queued_with c pair _ m (queued_at c pair m k) k
+act_queued m new (LinkStands c pair ws link items) k = queued_with c pair _ m (queued_at c pair m k) k
 act_queued m new (TicketsEnd c test to) k = queued_tickets m _ k
 act_queued m new (ServerJoins c pair s none) k = queued_with c pair _ m (come_queued s (is_dual c m) (queued_at c pair m k)) k
 act_queued m new (ServerStands c pair v whole lowest found) k = queued_with c pair _ m (server_queued v (record v { whole = whole; lowest = lowest }) found (λ h. h) (queued_at c pair m k)) k
 act_queued m new (ServerDies c pair v found live) k = queued_tickets _ _ (queued_with c pair _ m (server_queued v (record v { live = false }) found (λ h. h) (queued_at c pair m k)) k)
-act_queued m new (RegionsJoin c pair tables hs behind off) k = queued_with c pair _ m (queued_at c pair m k) k
+act_queued m new (RegionsJoin c pair tables hs behind off more) k = queued_with c pair _ m (queued_at c pair m k) k
 act_queued m new (RegionTurns c pair h to found same turns) k = queued_with c pair _ m (queued_at c pair m k) k
-act_queued m new (EntryPends c pair v x whole served room none) k = queued_with c pair _ m (server_queued v (takes_pending x whole v) served.found (λ h. h) (queued_at c pair m k)) k
-act_queued m new (PutPends c pair v x served room ticket) k = queued_tickets _ _ (queued_with c pair _ m (server_queued v (takes_pending x true v) served.found (λ h. h) (queued_at c pair m k)) k)
+act_queued m new (EntryPends c pair v x whole served room none titled) k = queued_with c pair _ m (server_queued v (takes_pending x whole v) served.found (λ h. h) (queued_at c pair m k)) k
+act_queued m new (PutPends c pair v x served room ticket titled) k = queued_tickets _ _ (queued_with c pair _ m (server_queued v (takes_pending x true v) served.found (λ h. h) (queued_at c pair m k)) k)
 act_queued m new (EntriesCommit c pair v to xs ts commits) k =
     let o = server_queued v to (ap (λ n. find (is_server n) (of c m).servers) commits.number ∙ commits.found) commits.opens (queued_at c pair m k) in
     subst Queued (sym (entries_committed c v.number v.log to xs ts m)) (queued_tickets _ _ (queued_with c pair _ m o k))
-act_queued m new (PeerJoins c pair p kind tables none) k = queued_with c pair _ m (join_queued (new_peer p kind tables (length (of c m).commits)) none refl (queued_at c pair m k)) k
-act_queued m new (PeerStands c pair x to found same sync) k = queued_with c pair _ m (peer_queued x to found same sync (queued_at c pair m k)) k
+act_queued m new (PeerJoins c pair p kind tables none there) k = queued_with c pair _ m (join_queued (new_peer p kind tables (length (of c m).commits)) none refl (queued_at c pair m k)) k
+act_queued m new (PeerStands c pair x to found same sync covers) k = queued_with c pair _ m (peer_queued x to found same sync (queued_at c pair m k)) k
 act_queued m new (PeerLeaves c pair x found plain) k = queued_with c pair _ m (leave_queued x found plain (queued_at c pair m k)) k
 act_queued m new (PeersRestart c pair) k = queued_with c pair _ m (restart_queued (length (of c m).commits) (queued_at c pair m k)) k
 act_queued m new (QueueStands c pair q to found) k = queued_with c pair _ m (stand_queued q to found (queued_at c pair m k)) k

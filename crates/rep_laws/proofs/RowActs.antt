@@ -15,6 +15,7 @@ use Rattle.rep_model.specs.LogEvents.{is_barred}
 use Rattle.rep_model.specs.Row.{site}
 use Rattle.rep_model.specs.declared.machine.Machine.{Machine}
 use Rattle.rep_laws.proofs.DoesQueues.{AllPaired}
+use Rattle.rep_laws.proofs.Acts.{Replayable}
 use Rattle.rep_laws.proofs.ActForms.{Acted, simple_acted, still_acted}
 use Rattle.rep_laws.proofs.ActsOfLogs.{server_acted, put_acted, sync_acted, roll_acted, crash_acted, seal_acted}
 use Rattle.rep_laws.proofs.ActsOfRegions.{table_acted, open_begin_acted, open_end_acted, close_begin_acted, close_end_acted, recover_acted, flush_acted, compact_acted, split_acted, merge_acted, sweep_acted}
@@ -33,41 +34,41 @@ show_acted : (c : Cluster) (table : List ℕ) (said : Reply) (m : Machine) → A
 unfolding show_row
 show_acted c table said m = simple_acted ((is_none (table_of c table m), refusal.NoTable) ∷ []) (site c call.Read ∷ []) said (λ _. still_acted)
 
-pub row_acted : (e : Event) → is_worded e ≡ true → (said : Reply) (m : Machine) → AllPaired m.flights → Acted m (row e said m)
-row_acted (event.Server c s) w said m pairs = server_acted c w s said m
-row_acted (event.Table c t fs) w said m pairs = table_acted c (and_parts _ _ w).0 t fs said m
-row_acted (event.OpenBegin c r s) w said m pairs = open_begin_acted c w r s said m
-row_acted (event.OpenEnd c r) w said m pairs = open_end_acted c w r said m
-row_acted (event.CloseBegin c r) w said m pairs = close_begin_acted c w r said m
-row_acted (event.CloseEnd c r) w said m pairs = close_end_acted c w r said m
-row_acted (event.Put c t k cells) w said m pairs = put_acted c (and_parts _ _ w).0 t k cells said m
-row_acted (event.Get c t k) w said m pairs = get_acted c t k said m
-row_acted (event.Show c t) w said m pairs = show_acted c t said m
-row_acted (event.Sync c s) w said m pairs = sync_acted c w s said m
-row_acted (event.Roll c s) w said m pairs = roll_acted c w s said m
-row_acted (event.Crash c s) w said m pairs = crash_acted c w s said m
-row_acted (event.Seal c s) w said m pairs = seal_acted c w s said m
-row_acted (event.Recover c r) w said m pairs = recover_acted c w r said m
-row_acted (event.Split c r k) w said m pairs = split_acted c w r k said m
-row_acted (event.Merge c r s) w said m pairs = merge_acted c w r s said m
-row_acted (event.Flush c r) w said m pairs = flush_acted c w r said m
-row_acted (event.Compact c r) w said m pairs = compact_acted c r said m
-row_acted (event.Sweep c s) w said m pairs = sweep_acted c w s said m
-row_acted (event.SweepRemote c s) w said m pairs = sweep_remote_acted c w s said m
-row_acted (event.Peer c p k ts) w said m pairs = peer_acted c (and_parts _ _ w).0 p k ts said m
-row_acted (event.Enable c p) w said m pairs = enable_acted c w p said m
-row_acted (event.Disable c p) w said m pairs = disable_acted c w p said m
-row_acted (event.Remove c p) w said m pairs = remove_acted c w p said m
-row_acted (event.MakeSerial c p) w said m pairs = make_serial_acted c w p said m
-row_acted (event.Send c p s n) w said m pairs = send_acted c (and_parts _ _ w).0 p s n said m
-row_acted (event.Deliver f) w said m pairs = deliver_acted f said m pairs
-row_acted (event.Lose f) w said m pairs = lose_acted f said m pairs
-row_acted (event.Confirm f) w said m pairs = confirm_acted f said m pairs
-row_acted (event.Claim c by s p) w said m pairs = claim_acted c w by s p said m
-row_acted (event.Mirror c s) w said m pairs = mirror_acted c w s said m
-row_acted (event.TransitBegin c to) w said m pairs = transit_begin_acted c (and_parts _ _ w).0 to said m
-row_acted (event.TransitEnd c) w said m pairs = transit_end_acted c w said m
-row_acted (event.MakeFolder c) w said m pairs = make_folder_acted c w said m
-row_acted (event.PromoteBegin c) w said m pairs = promote_begin_acted c w said m
-row_acted (event.Replay c) w said m pairs = replay_acted c w said m
-row_acted (event.PromoteEnd c) w said m pairs = promote_end_acted c w said m
+pub row_acted : (e : Event) → is_worded e ≡ true → (said : Reply) (m : Machine) → AllPaired m.flights → Replayable m → Acted m (row e said m)
+row_acted (event.Server c s) w said m pairs replays = server_acted c w s said m
+row_acted (event.Table c t fs) w said m pairs replays = table_acted c (and_parts _ _ w).0 t fs said m
+row_acted (event.OpenBegin c r s) w said m pairs replays = open_begin_acted c w r s said m
+row_acted (event.OpenEnd c r) w said m pairs replays = open_end_acted c w r said m
+row_acted (event.CloseBegin c r) w said m pairs replays = close_begin_acted c w r said m
+row_acted (event.CloseEnd c r) w said m pairs replays = close_end_acted c w r said m
+row_acted (event.Put c t k cells) w said m pairs replays = put_acted c (and_parts _ _ w).0 t k cells said m
+row_acted (event.Get c t k) w said m pairs replays = get_acted c t k said m
+row_acted (event.Show c t) w said m pairs replays = show_acted c t said m
+row_acted (event.Sync c s) w said m pairs replays = sync_acted c w s said m
+row_acted (event.Roll c s) w said m pairs replays = roll_acted c w s said m
+row_acted (event.Crash c s) w said m pairs replays = crash_acted c w s said m
+row_acted (event.Seal c s) w said m pairs replays = seal_acted c w s said m
+row_acted (event.Recover c r) w said m pairs replays = recover_acted c w r said m
+row_acted (event.Split c r k) w said m pairs replays = split_acted c w r k said m
+row_acted (event.Merge c r s) w said m pairs replays = merge_acted c w r s said m
+row_acted (event.Flush c r) w said m pairs replays = flush_acted c w r said m
+row_acted (event.Compact c r) w said m pairs replays = compact_acted c r said m
+row_acted (event.Sweep c s) w said m pairs replays = sweep_acted c w s said m
+row_acted (event.SweepRemote c s) w said m pairs replays = sweep_remote_acted c w s said m
+row_acted (event.Peer c p k ts) w said m pairs replays = peer_acted c (and_parts _ _ w).0 p k ts said m
+row_acted (event.Enable c p) w said m pairs replays = enable_acted c w p said m
+row_acted (event.Disable c p) w said m pairs replays = disable_acted c w p said m
+row_acted (event.Remove c p) w said m pairs replays = remove_acted c w p said m
+row_acted (event.MakeSerial c p) w said m pairs replays = make_serial_acted c w p said m
+row_acted (event.Send c p s n) w said m pairs replays = send_acted c (and_parts _ _ w).0 p s n said m
+row_acted (event.Deliver f) w said m pairs replays = deliver_acted f said m pairs
+row_acted (event.Lose f) w said m pairs replays = lose_acted f said m pairs
+row_acted (event.Confirm f) w said m pairs replays = confirm_acted f said m pairs
+row_acted (event.Claim c by s p) w said m pairs replays = claim_acted c w by s p said m
+row_acted (event.Mirror c s) w said m pairs replays = mirror_acted c w s said m
+row_acted (event.TransitBegin c to) w said m pairs replays = transit_begin_acted c (and_parts _ _ w).0 to said m
+row_acted (event.TransitEnd c) w said m pairs replays = transit_end_acted c w said m
+row_acted (event.MakeFolder c) w said m pairs replays = make_folder_acted c w said m
+row_acted (event.PromoteBegin c) w said m pairs replays = promote_begin_acted c w said m
+row_acted (event.Replay c) w said m pairs replays = replay_acted c w said m replays
+row_acted (event.PromoteEnd c) w said m pairs replays = promote_end_acted c w said m

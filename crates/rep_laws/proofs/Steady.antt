@@ -15,6 +15,7 @@ use Rattle.rep_laws.proofs.FlightsPart.{FlightsNumbered, act_flights}
 use Rattle.rep_laws.proofs.PromisePart.{Promises, PromiseSide, act_promises}
 use Rattle.rep_laws.proofs.QueuesPart.{Queued, QueueIn, act_queued}
 use Rattle.rep_laws.proofs.LogsPart.{Logged, LogIn, act_logged}
+use Rattle.rep_laws.proofs.TablesPart.{Tabled, TableIn, act_tabled, replays_tabled}
 
 pub record Steady (m : Machine) : Type 0 where
   pub seats : Seats m
@@ -22,6 +23,7 @@ pub record Steady (m : Machine) : Type 0 where
   pub promises : Promises m
   pub queued : Queued m
   pub logged : Logged m
+  pub tabled : Tabled m
 
 nothing_seated : SeatIn empty_side
 nothing_seated = record { servers_differ = tt; resting = tt; numbered = tt; working = tt; placed = tt; known = tt }
@@ -38,6 +40,9 @@ nothing_logged = record { begun = tt; within = tt; rising = tt; sequenced = tt; 
     none : 0 ≤ 65536
     none = omega arith
 
+nothing_tabled : TableIn empty_side
+nothing_tabled = record { pending = tt; committed = tt; written = tt }
+
 opening_steady : Steady opening
 opening_steady = record {
   seats = record { a = nothing_seated; b = nothing_seated };
@@ -45,6 +50,7 @@ opening_steady = record {
   promises = record { a = nothing_promised A; b = nothing_promised B };
   queued = record { a = nothing_queued; b = nothing_queued };
   logged = record { a = nothing_logged; b = nothing_logged };
+  tabled = record { a = nothing_tabled; b = nothing_tabled; a_covers = tt; b_covers = tt };
 }
 
 acts_steady : (m new : Machine) → Acts m new → Steady m → Steady new
@@ -55,13 +61,14 @@ acts_steady m new (After xs x) k = let mid = acts_steady m _ xs k in record {
   promises = act_promises _ _ x mid.seats mid.promises;
   queued = act_queued _ _ x mid.queued;
   logged = act_logged _ _ x mid.seats mid.logged;
+  tabled = act_tabled _ _ x mid.tabled;
 }
 
 steady_from : (rs : List Record) (m : Machine) (n : Counts) → Lawful m → Steady m → LegalFrom m n rs → Steady (state_from m rs)
 unfolding after
 steady_from [] m n l k legal = k
 steady_from (r ∷ rs) m n l k legal = steady_from rs (row r.event r.reply m).state (counts_of r) (row_lawful r.event legal.0.worded r.reply m l)
-    (acts_steady m _ (row_acted r.event legal.0.worded r.reply m l.pairs).acts k) legal.1
+    (acts_steady m _ (row_acted r.event legal.0.worded r.reply m l.pairs (replays_tabled m l.sourced k.tabled)).acts k) legal.1
 
 pub steady_journal : (journal : List Record) → IsLegal journal → Steady (state_of journal)
 unfolding IsLegal state_of
