@@ -1,5 +1,5 @@
 -- A server's log was synced, or the sync failed: what memory and the store stand for then.
-use Rattle.std.proofs.Common.{ℕ, ◌<◌, ◌≤◌, ◌≡◌, ◌==◌, ◌^◌, ◌⊎◌, inl, inr, Bool, true, false, List, [], ◌∷◌, ◌++◌, map, find, position, set, slice_get, length, Option, Some, None, refl, ap, sym, ◌∙◌, subst, eqb-true, eq-eqb, ne_eqb, append-nil, arith}
+use Rattle.std.proofs.Common.{ℕ, suc, ◌<◌, ◌≤◌, ◌≡◌, ◌==◌, ◌^◌, ◌⊎◌, inl, inr, Bool, true, false, List, [], ◌∷◌, ◌++◌, map, find, position, set, slice_get, length, Option, Some, None, refl, ap, sym, ◌∙◌, subst, eqb-true, eq-eqb, ne_eqb, append-nil, arith}
 use Rattle.std.specs.List.{AllByRecursion}
 use Rattle.rep_types.specs.declared.ids.Cluster.{Cluster}
 use Rattle.rep_types.specs.declared.entry.Entry.{Entry}
@@ -10,7 +10,7 @@ use Rattle.wal_roll.specs.Steps.{OnlyFile, settled, broken_by}
 use Rattle.region_server.specs.Host.{HostValue, IsHost}
 use Rattle.rep_model.specs.Keyed.{replace}
 use Rattle.rep_model.specs.State.{is_server}
-use Rattle.rep_model.specs.Commits.{pending_count, log_commits}
+use Rattle.rep_model.specs.Commits.{pending_count, log_commits, commit_of}
 use Rattle.rep_model.specs.Frames.{commits_length}
 use Rattle.rep_model.specs.LogEvents.{emptied, broken}
 use Rattle.rep_model.specs.declared.machine.Side.{Side}
@@ -74,9 +74,17 @@ below_is_apart n l h e = omega arith
 above_is_apart : (n l : ℕ) → n < l → n ≡ l → ⊥
 above_is_apart n l h e = omega arith
 
+-- as many entries are pending
+pub pending_long : (s l : ℕ) (commits : List Commit) (ps : List Pending) → length (pending_entries s l commits ps) ≡ length ps
+pending_long s l commits [] = refl
+pending_long s l commits (p ∷ ps) = ap suc (pending_long s l (commits ++ commit_of s l commits p ∷ []) ps)
+
 -- the length of the frames before what is pending
 pub frames_before : (commits : List Commit) (srv : Server) (w : LogValue) → w ≡ writer_of (log_of commits srv) → w.synced ≡ commits_length (log_commits srv.number srv.log commits)
 frames_before commits srv w e = ap (λ (v : LogValue). v.synced) e ∙ frames_length (log_commits srv.number srv.log commits)
+
+pub host_stands : (c : Contents) (side : Side) (st : Station) (srv : Server) → StationStands c side st srv → srv.sealed ≡ false → IsHost c st.host (log_of side.commits srv)
+host_stands c side st srv k sealed = subst (λ b. Current c side.commits st.host srv b) sealed k.logs.current
 
 module _ (own : Cluster) (old new : Contents) (core : ClusterCore) (side : Side) (s at : ℕ) (here : HasStation old side core.stations s at) (h : HostValue)
     (stands : Stands own old core side) (o : IsOrderly side) (sealed : here.server.sealed ≡ false)
@@ -91,8 +99,8 @@ module _ (own : Cluster) (old new : Contents) (core : ClusterCore) (side : Side)
   abbrev st : Station
   st = record here.station { host = h }
 
-  pub was_host : IsHost old here.station.host (log_of side.commits here.server)
-  was_host = subst (λ b. Current old side.commits here.station.host here.server b) sealed here.stands.logs.current
+  was_host : IsHost old here.station.host (log_of side.commits here.server)
+  was_host = host_stands old side here.station here.server here.stands sealed
 
   log_is : here.station.host.log ≡ writer_of (log_of side.commits here.server)
   log_is = was_host.writer.same

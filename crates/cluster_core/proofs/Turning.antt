@@ -22,6 +22,8 @@ use Rattle.rep_model.specs.declared.machine.Peer.{Peer}
 use Rattle.rep_laws.proofs.Lists.{All_weaker, All_append, All_found, All_mapped, found_passes}
 use Rattle.rep_laws.proofs.Finding.{find_replaced, find_elsewhere}
 use Rattle.cluster_core.specs.declared.parts.Station.{Station}
+use Rattle.rep_types.specs.declared.state.Kind.TheVariants.{Plain}
+use Rattle.cluster_core.specs.declared.parts.PeerLine.{PeerLine}
 use Rattle.cluster_core.specs.declared.parts.Line.{Line}
 use Rattle.cluster_core.specs.declared.parts.ClusterCore.{ClusterCore}
 use Rattle.cluster_core.specs.Entries.{entry_of, coming, pending_entries, log_entries, server_commits}
@@ -163,7 +165,7 @@ turned own c c' core core' side side' srv next st front stands o turns core_turn
   servers = stations_turned c c' core core' side side' srv next st front turns core_turns o placed files station stands.servers;
   queues = record {
     peers = core_turns.peers ∙ (stands.queues.peers ∙ ap (map peer_line) (sym turns.peers));
-    plain = subst (λ ps. AllByRecursion _ ps) (sym core_turns.peers) stands.queues.plain;
+    plain = subst (λ (ps : List PeerLine). AllByRecursion (λ (p : PeerLine). p.kind ≡ Plain) ps) (sym core_turns.peers) stands.queues.plain;
     queues = ap (map queue_of_line) core_turns.lines ∙ (stands.queues.queues ∙ sym turns.queues);
     at = subst (AllByRecursion (IsAt side')) (sym core_turns.lines) (All_weaker (λ l k. line_turned side side' srv next front l turns o k) core.lines stands.queues.at);
   };

@@ -16,7 +16,7 @@ ghost use Rattle.cluster_core.specs.Does.{Counts};
 ghost use Rattle.cluster_core.specs.Committing.{Syncs};
 
 use crate::{ClusterCore, Station, log_fits};
-use region_server::Committed;
+use region_server::{Committed, Host};
 use rep_types::Items;
 use rep_vault::Vault;
 use std::alloc::Global;
@@ -28,6 +28,13 @@ use wal_roll::LogError;
 pub enum CommitError {
     StoreFault { count: u64 },
     Memory { changed: bool },
+}
+
+fn host_at(stations: &Items<Station>, at: usize) -> &Host
+    requires { at < length stations.now }
+    ensures { (st : Station) → slice_get stations.now at ≡ Some st → result.now ≡ st.host }
+{
+    &stations.as_slice()[at].host
 }
 
 // Syncs the log of the station at this place.
@@ -65,7 +72,7 @@ pub fn commit<V: Vault>(
     ensures counts { Counts (V.tally own.old) (V.tally own.new) }
     ensures told { (count : ℕ) → result ≡ Err (error.StoreFault count) → (count ≡ total (V.tally own.new).faults) × (total (V.tally own.old).faults < total (V.tally own.new).faults) }
 {
-    let host = &core.stations.as_slice()[at].host;
+    let host = host_at(&core.stations, at);
     let server = host.server();
     let log = host.log().number();
     let from = host.log().synced();
