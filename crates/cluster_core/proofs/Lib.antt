@@ -9,6 +9,7 @@ pub mod Keys
 pub mod Lookups
 pub mod Naming
 pub mod Places
+pub mod Reaching
 pub mod RecordsPut
 pub mod Shelving
 pub mod Simple

@@ -1,5 +1,5 @@
 -- What the sync left, and what memory took in of it.
-use Rattle.std.proofs.Common.{ℕ, ◌≡◌, true, false, List, [], ◌∷◌, length, map, set, Some, slice_get, refl, ap, sym, ◌∙◌, subst, length-map}
+use Rattle.std.proofs.Common.{ℕ, ◌≡◌, true, false, List, [], ◌∷◌, length, map, set, Some, slice_get, refl, ap, sym, ◌∙◌, subst}
 use Rattle.std.proofs.lemmas.Bool.{false≢true}
 use Rattle.rep_vault.specs.Contents.{Contents}
 use Rattle.wal_roll.specs.Log.{Log, LogValue}
