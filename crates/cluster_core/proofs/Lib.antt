@@ -1,6 +1,7 @@
 pub mod Absorbed
 pub mod Accepted
 pub mod Answering
+pub mod Beside
 pub mod Commas
 pub mod Finds
 pub mod Frames
@@ -11,9 +12,12 @@ pub mod Lookups
 pub mod Naming
 pub mod Places
 pub mod Seats
+pub mod Reaching
 pub mod RecordsPut
 pub mod Shelving
 pub mod Simple
 pub mod Staying
+pub mod Synced
 pub mod Tracing
+pub mod Turning
 pub mod Writing

@@ -53,6 +53,12 @@ place_found q (y ∷ ys) x e = cond_both (q y) (Some y) (find q ys) (λ o. o ≡
     (λ _ s. (zero, s))
     (λ _ s. let r = place_found q ys x s in (suc r.0, r.1)) e
 
+-- at each place within stands an item
+pub taken_place : {X : Type 0} (xs : List X) (k : ℕ) → suc k ≤ length xs → (x : X) × (slice_get xs k ≡ Some x)
+taken_place [] k h = absurd (none_left k h)
+taken_place (x ∷ xs) zero h = (x, refl)
+taken_place (x ∷ xs) (suc k) h = taken_place xs k (less (suc k) (length xs) h)
+
 -- ---- an item that gives way
 
 pub replace_twice : {X : Type 0} (q : X → Bool) (old new : X) (xs : List X) → q old ≡ true → replace q new (replace q old xs) ≡ replace q new xs

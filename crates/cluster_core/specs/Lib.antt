@@ -1,6 +1,7 @@
 pub mod Absorbing
 pub mod Accepting
 pub mod Changes
+pub mod Committing
 pub mod Does
 pub mod Entries
 pub mod Lines

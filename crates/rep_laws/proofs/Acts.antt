@@ -10,7 +10,7 @@ use Rattle.rep_types.specs.declared.state.PlaceOf.{PlaceOf}
 use Rattle.rep_types.specs.declared.state.PlaceOf.TheVariants as place
 use Rattle.wal_entry.specs.Length.{frame_length}
 use Rattle.rep_model.specs.Keyed.{replace}
-use Rattle.rep_model.specs.State.{of, with, other, is_server, is_peer, is_flight, server_of, region_of, queue_of, flight_of, with_server, with_region, with_peer, with_queue}
+use Rattle.rep_model.specs.State.{of, with, other, is_server, is_region, is_peer, is_flight, server_of, region_of, queue_of, flight_of, with_server, with_region, with_peer, with_queue}
 use Rattle.rep_model.specs.Words.{is_paired}
 use Rattle.rep_model.specs.Changes.{takes_pending}
 use Rattle.rep_model.specs.Commits.{log_commits, settled}
@@ -84,6 +84,14 @@ pub record Served (c : Cluster) (m : Machine) (v : Server) (r : Region) : Type 0
   pub region : r ≡ hosted.region
   pub works : works_at v.number hosted.place ≡ true
 
+-- the region of this number is Gone
+abbrev pub StandsGone : List Hosted → ℕ → Type 0
+StandsGone regions r = (g : Hosted) × (find (is_region r) regions ≡ Some g) × (g.place ≡ place.Gone)
+
+-- the regions that these came from are Gone
+abbrev pub FromGone : List Hosted → List Hosted → Type 0
+FromGone regions hs = AllByRecursion (λ (h : Hosted). AllByRecursion (StandsGone regions) h.region.parents) hs
+
 -- how a region's place may change
 pub data Turns (c : Cluster) (m : Machine) : PlaceOf → PlaceOf → Type 0 where
   Stays : (p : PlaceOf) → Turns c m p p
@@ -128,9 +136,9 @@ pub data Act (m : Machine) : Machine → Type 0 where
   ServerJoins : (c : Cluster) → is_paired c ≡ true → (s : ℕ) → server_of c s m ≡ None → Act m (server_added c s m)
   ServerStands : (c : Cluster) → is_paired c ≡ true → (v : Server) (whole : Bool) (lowest : ℕ) → server_of c v.number m ≡ Some v → Act m (with_server c (record v { whole = whole; lowest = lowest }) m)
   ServerDies : (c : Cluster) → is_paired c ≡ true → (v : Server) → server_of c v.number m ≡ Some v → v.live ≡ true → Act m (died c v m)
-  -- new regions, numbered behind those that stand; no table goes
+  -- new regions, numbered behind those that stand, and from such that are Gone; no table goes
   RegionsJoin : (c : Cluster) → is_paired c ≡ true → (tables : List Table) (hs : List Hosted) → Numbered (length (of c m).regions + 1) (region_numbers hs) → AllByRecursion (λ (h : Hosted). h.place ≡ place.Off) hs
-      → ((name : List ℕ) → HasTable (of c m).tables name → HasTable tables name) → Act m (with c (record (of c m) { tables = tables; regions = (of c m).regions ++ hs }) m)
+      → ((name : List ℕ) → HasTable (of c m).tables name → HasTable tables name) → FromGone (of c m).regions hs → Act m (with c (record (of c m) { tables = tables; regions = (of c m).regions ++ hs }) m)
   RegionTurns : (c : Cluster) → is_paired c ≡ true → (h new : Hosted) → region_of c new.region.number m ≡ Some h → new.region ≡ h.region → Turns c m h.place new.place → Act m (with_region c new m)
   -- an entry without a ticket is pending, and a put with the next ticket
   EntryPends : (c : Cluster) → is_paired c ≡ true → (v : Server) (x : Pending) (whole : Bool) → Served c m v x.region → used c v m + frame_length x.kind ≤ 65536 → x.ticket ≡ None → OfTable x.kind x.region → Act m (with_server c (takes_pending x whole v) m)

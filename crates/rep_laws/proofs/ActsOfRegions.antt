@@ -1,5 +1,5 @@
 -- Which acts the events of tables and regions are: table, openbegin, openend, closebegin, closeend, recover, flush, compact, split, merge, sweep.
-use Rattle.std.proofs.Common.{ℕ, suc, ◌+◌, ◌≤◌, ◌≡◌, ◌||◌, inl, inr, Bool, true, false, not, List, [], ◌∷◌, ◌++◌, length, find, Option, Some, None, is_some, is_none, if◌then◌else◌, refl, ap, sym, ◌∙◌, subst, arith, eqb-true, eq-eqb, ne_eqb}
+use Rattle.std.proofs.Common.{ℕ, suc, ◌+◌, ◌≤◌, ◌≡◌, ◌||◌, ◌⊎◌, inl, inr, Bool, true, false, not, List, [], ◌∷◌, ◌++◌, length, find, Option, Some, None, is_some, is_none, if◌then◌else◌, refl, ap, sym, ◌∙◌, subst, arith, eqb-true, eq-eqb, ne_eqb}
 use Rattle.std.specs.List.{AllByRecursion}
 use Rattle.std.proofs.lemmas.Bool.{not-false, false≢true, cases_eq}
 use Rattle.std.proofs.lemmas.Option.{same_Some}
@@ -39,7 +39,7 @@ use Rattle.rep_laws.proofs.Steps.{if_some_true, if_some_false, given_some, not_n
 use Rattle.rep_laws.proofs.DoesQueues.{given_is}
 use Rattle.rep_laws.proofs.DoesRegions.{placed_refusals, region_in}
 use Rattle.rep_laws.proofs.Numbering.{Numbered}
-use Rattle.rep_laws.proofs.Acts.{works_at, is_at, HasTable, OfTable, Served, Turns, Stays, Opens, Opened, Closes, Leaves, Retires, StaysGone, Act, Acts, act, acts_then, ServerStands, RegionsJoin, RegionTurns}
+use Rattle.rep_laws.proofs.Acts.{works_at, is_at, HasTable, OfTable, StandsGone, Served, Turns, Stays, Opens, Opened, Closes, Leaves, Retires, StaysGone, Act, Acts, act, acts_then, ServerStands, RegionsJoin, RegionTurns}
 use Rattle.rep_laws.proofs.ActForms.{Acted, first_acted, fault_acted, simple_acted, given_acted, still_acted, given_acts, server_number, server_again, region_again, on_is, opens_is, closes_is, lost_is, off_is, has_room, broken_acts, synced_one}
 
 some_there : {X : Type 0} (o : Option X) → is_some o ≡ true → (x : X) × (o ≡ Some x)
@@ -53,7 +53,7 @@ still_named name tables more h = let t = some_there (find (is_named name) tables
 pub table_acted : (c : Cluster) → is_paired c ≡ true → (name : List ℕ) (families : List Family) (said : Reply) (m : Machine) → Acted m (table_row c name families said m)
 unfolding table_row
 table_acted c pair name families said m = simple_acted ((is_some (table_of c name m), refusal.Exists) ∷ (too_many c 1 m, refusal.TooMany) ∷ []) (site c call.Put ∷ []) said
-    (λ _. record { acts = act (RegionsJoin c pair _ _ (refl, tt) (refl, tt) (λ n h. still_named n (of c m).tables _ h)) })
+    (λ _. record { acts = act (RegionsJoin c pair _ _ (refl, tt) (refl, tt) (λ n h. still_named n (of c m).tables _ h) (tt, tt)) })
 
 -- the region's place, where it is there
 place_there : (c : Cluster) (r : ℕ) (m : Machine) (h : Hosted) → region_of c r m ≡ Some h → place_of c r m ≡ h.place
@@ -211,6 +211,33 @@ pub compact_acted : (c : Cluster) → (r : ℕ) (said : Reply) (m : Machine) →
 unfolding compact_row
 compact_acted c r said m = simple_acted (placed_refusals c r (is_some (on_at (place_of c r m))) m []) (site c call.Read ∷ run_sites c (site c call.Put ∷ [])) said (λ _. still_acted)
 
+-- a region that gave way to a Gone one is Gone
+gone_now : (c : Cluster) (m : Machine) (h gone : Hosted) → region_of c gone.region.number m ≡ Some h → gone.place ≡ place.Gone → StandsGone (of c (with_region c gone m)).regions gone.region.number
+gone_now c m h gone there is =
+    let side : Side = record (of c m) { regions = replace (is_region gone.region.number) gone (of c m).regions } in
+    (gone, ap (λ (s : Side). find (is_region gone.region.number) s.regions) (of_with c side m) ∙ find_replaced (is_region gone.region.number) gone h (of c m).regions (eq-eqb gone.region.number gone.region.number refl) there, is)
+
+-- what is found when a region gives way: that one, or what was found before
+found_still : (c : Cluster) (m : Machine) (gone g : Hosted) (n : ℕ) → region_of c n m ≡ Some g → (region_of c n (with_region c gone m) ≡ Some gone) ⊎ (region_of c n (with_region c gone m) ≡ Some g)
+found_still c m gone g n there =
+    let side : Side = record (of c m) { regions = replace (is_region gone.region.number) gone (of c m).regions } in
+    let now : region_of c n (with_region c gone m) ≡ find (is_region n) (replace (is_region gone.region.number) gone (of c m).regions) = ap (λ (s : Side). find (is_region n) s.regions) (of_with c side m) in
+    elim (cases_eq gone.region.number n) [
+      | inl e ↦ inl (now ∙ (ap (λ k. find (is_region k) (replace (is_region gone.region.number) gone (of c m).regions)) (sym e)
+          ∙ find_replaced (is_region gone.region.number) gone g (of c m).regions (eq-eqb gone.region.number gone.region.number refl) (ap (λ k. find (is_region k) (of c m).regions) e ∙ there)))
+      | inr apart ↦ inr (now ∙ (find_elsewhere (is_region gone.region.number) (is_region n) gone (of c m).regions (ne_eqb gone.region.number n apart) (λ y t. ne_eqb y.region.number n (λ z. apart (sym (eqb-true y.region.number gone.region.number t) ∙ z))) ∙ there))
+    ]
+
+gone_still : (c : Cluster) (m : Machine) (gone : Hosted) (n : ℕ) → gone.place ≡ place.Gone → StandsGone (of c m).regions n → StandsGone (of c (with_region c gone m)).regions n
+gone_still c m gone n is p = elim (found_still c m gone p.0 n p.1) [ inl e ↦ (gone, e, is) | inr e ↦ (p.0, e, p.2) ]
+
+-- both of two regions that give way, one after the other
+gone_behind : (c : Cluster) (m : Machine) (h gone new : Hosted) → region_of c new.region.number m ≡ Some h → new.place ≡ place.Gone → StandsGone (of c (with_region c new (with_region c gone m))).regions new.region.number
+gone_behind c m h gone new there is = elim (found_still c m gone h new.region.number there) [
+  | inl e ↦ gone_now c (with_region c gone m) gone new e is
+  | inr e ↦ gone_now c (with_region c gone m) h new e is
+]
+
 -- split and merge
 
 abbrev retired : Cluster → ℕ → Machine → Hosted → Hosted
@@ -243,7 +270,7 @@ split_acted c pair r key said m = simple_acted (placed_refusals c r (is_off (pla
     let m1 : Machine = with_region c (retired c r m h) m in
     record {
       acts = acts_then (act (RegionTurns c pair h (retired c r m h) (region_again c r m h e) refl (retires c r m h e (not-false _ none.1.0))))
-          (act (RegionsJoin c pair (of c m1).tables _ (two_numbered (length (of c m1).regions) (length (of c m).regions) (still_long c (retired c r m h) m)) (refl, (refl, tt)) (λ n q. q)));
+          (act (RegionsJoin c pair (of c m1).tables _ (two_numbered (length (of c m1).regions) (length (of c m).regions) (still_long c (retired c r m h) m)) (refl, (refl, tt)) (λ n q. q) (let gone = gone_now c m h (retired c r m h) (region_again c r m h e) refl in ((gone, tt), ((gone, tt), tt)))));
     }))
 
 -- the second of two regions retires behind the first, which may be the same
@@ -294,7 +321,8 @@ merge_acted c pair r s said m = simple_acted (
     record {
       acts = acts_then (acts_then (act (RegionTurns c pair g gone (region_again c r m g e) refl (retires c r m g e (not-false _ none.1.1.0))))
           (act (retires_behind c pair g h gone new m (region_again c r m g e) (region_again c s m h f) refl refl refl refl off)))
-          (act (RegionsJoin c pair (of c m2).tables _ (one_numbered (length (of c m2).regions) (length (of c m).regions) (still_long c new m1 ∙ still_long c gone m)) (refl, tt) (λ n q. q)));
+          (act (RegionsJoin c pair (of c m2).tables _ (one_numbered (length (of c m2).regions) (length (of c m).regions) (still_long c new m1 ∙ still_long c gone m)) (refl, tt) (λ n q. q)
+          ((gone_still c m1 new g.region.number refl (gone_now c m g gone (region_again c r m g e) refl), (gone_behind c m h gone new (region_again c s m h f) refl, tt)), tt)));
     })))
 
 -- sweep

@@ -301,7 +301,7 @@ act_logged m new (ServerStands c pair v whole lowest found) seats k = let o = lo
     logged_with c pair _ m (server_logged v (record v { whole = whole; lowest = lowest }) found refl (All_found (λ (w : Server). used_of (of c m).commits w ≤ 65536) (is_server v.number) (of c m).servers v found o.room) o) k
 act_logged m new (ServerDies c pair v found live) seats k = let o = logged_at c pair m k in
     logged_tickets _ _ (logged_with c pair _ m (server_logged v (record v { live = false }) found refl (All_found (λ (w : Server). used_of (of c m).commits w ≤ 65536) (is_server v.number) (of c m).servers v found o.room) o) k)
-act_logged m new (RegionsJoin c pair tables hs behind off more) seats k = logged_with c pair _ m (logged_at c pair m k) k
+act_logged m new (RegionsJoin c pair tables hs behind off more gone) seats k = logged_with c pair _ m (logged_at c pair m k) k
 act_logged m new (RegionTurns c pair h to found same turns) seats k = logged_with c pair _ m (logged_at c pair m k) k
 act_logged m new (EntryPends c pair v x whole served room none titled) seats k = logged_with c pair _ m (pend_logged v x whole served.found room (logged_at c pair m k)) k
 act_logged m new (PutPends c pair v x served room ticket titled) seats k = logged_tickets _ _ (logged_with c pair _ m (pend_logged v x true served.found room (logged_at c pair m k)) k)

@@ -279,7 +279,7 @@ act_queued m new (TicketsEnd c test to) k = queued_tickets m _ k
 act_queued m new (ServerJoins c pair s none) k = queued_with c pair _ m (come_queued s (is_dual c m) (queued_at c pair m k)) k
 act_queued m new (ServerStands c pair v whole lowest found) k = queued_with c pair _ m (server_queued v (record v { whole = whole; lowest = lowest }) found (λ h. h) (queued_at c pair m k)) k
 act_queued m new (ServerDies c pair v found live) k = queued_tickets _ _ (queued_with c pair _ m (server_queued v (record v { live = false }) found (λ h. h) (queued_at c pair m k)) k)
-act_queued m new (RegionsJoin c pair tables hs behind off more) k = queued_with c pair _ m (queued_at c pair m k) k
+act_queued m new (RegionsJoin c pair tables hs behind off more gone) k = queued_with c pair _ m (queued_at c pair m k) k
 act_queued m new (RegionTurns c pair h to found same turns) k = queued_with c pair _ m (queued_at c pair m k) k
 act_queued m new (EntryPends c pair v x whole served room none titled) k = queued_with c pair _ m (server_queued v (takes_pending x whole v) served.found (λ h. h) (queued_at c pair m k)) k
 act_queued m new (PutPends c pair v x served room ticket titled) k = queued_tickets _ _ (queued_with c pair _ m (server_queued v (takes_pending x true v) served.found (λ h. h) (queued_at c pair m k)) k)

@@ -33,7 +33,7 @@ use Rattle.rep_laws.proofs.Steps.{numbers_replaced}
 use Rattle.rep_laws.proofs.FrontPart.{Different, different_pushed, number_absent}
 use Rattle.rep_laws.proofs.Numbering.{Numbered, numbered_append, numbered_differ, found_key, length_mapped}
 use Rattle.rep_laws.proofs.ActSides.{committed_so, entries_committed}
-use Rattle.rep_laws.proofs.Acts.{works_at, is_at, region_numbers, Served, Turns, Stays, Opens, Opened, Closes, Leaves, Retires, StaysGone, IsDue, Committing, Act, LinkStands, TicketsEnd, ServerJoins, ServerStands, ServerDies, RegionsJoin, RegionTurns, EntryPends, PutPends, EntriesCommit, PeerJoins, PeerStands, PeerLeaves, PeersRestart, QueueStands, FlightJoins, FlightStands}
+use Rattle.rep_laws.proofs.Acts.{works_at, is_at, region_numbers, StandsGone, FromGone, Served, Turns, Stays, Opens, Opened, Closes, Leaves, Retires, StaysGone, IsDue, Committing, Act, LinkStands, TicketsEnd, ServerJoins, ServerStands, ServerDies, RegionsJoin, RegionTurns, EntryPends, PutPends, EntriesCommit, PeerJoins, PeerStands, PeerLeaves, PeersRestart, QueueStands, FlightJoins, FlightStands}
 
 -- where the region works, a server lives
 abbrev pub Works : List Server → Hosted → Type 0
@@ -61,6 +61,7 @@ pub record SeatSide (servers : List Server) (regions : List Hosted) (commits : L
   pub working : AllByRecursion (Works servers) regions
   pub placed : AllByRecursion (AllPlaced regions) servers
   pub known : AllByRecursion (λ (x : Commit). Known regions x.region) commits
+  pub parents : FromGone regions regions
 
 abbrev pub SeatIn : Side → Type 0
 SeatIn s = SeatSide s.servers s.regions s.commits
@@ -116,6 +117,7 @@ server_seats {servers} {regions} {commits} v new there live rests placed o = rec
   working = All_weaker (λ h w. works_again v new servers there live h w) regions o.working;
   placed = All_replaced (AllPlaced regions) (is_server new.number) new servers placed o.placed;
   known = o.known;
+  parents = o.parents;
 }
 
 -- entries come where their regions work
@@ -176,6 +178,7 @@ commit_seats c m v new xs ts k o =
       placed = served.placed;
       known = All_append (λ (x : Commit). Known (of c m).regions x.region) (of c m).commits (numbered v.number v.log (of c m).commits xs) o.known
           (numbered_known (of c m).regions v.number v.log (of c m).commits xs (All_weaker (λ x d. due_known c m v x k.found o d) xs k.due));
+      parents = served.parents;
     }
 
 -- a region's place changes
@@ -244,6 +247,33 @@ turn_known h new regions there same r p = elim (turned_found h new regions there
   | inr f ↦ (p.0, f, p.2)
 ]
 
+-- only Gone is Gone
+abbrev is_gone : PlaceOf → Bool
+is_gone place.Off = false
+is_gone (place.Opening s) = false
+is_gone (place.On s) = false
+is_gone (place.Closing s) = false
+is_gone (place.Lost s) = false
+is_gone place.Gone = true
+
+off_or_gone : (p : PlaceOf) → p ≡ place.Gone → is_gone p ≡ false → ⊥
+off_or_gone p e n = false≢true (sym n ∙ ap is_gone e)
+
+gone_stays_so : (c : Cluster) (m : Machine) (p q : PlaceOf) → Turns c m p q → p ≡ place.Gone → q ≡ place.Gone
+gone_stays_so c m p q (Stays r) e = e
+gone_stays_so c m p q (Opens r v found live) e = absurd (off_or_gone place.Off e refl)
+gone_stays_so c m p q (Opened r) e = absurd (off_or_gone (place.Opening r) e refl)
+gone_stays_so c m p q (Closes r) e = absurd (off_or_gone (place.On r) e refl)
+gone_stays_so c m p q (Leaves r k v at found empty) e = absurd (false≢true (ap (is_at k) (sym e) ∙ at))
+gone_stays_so c m p q Retires e = refl
+gone_stays_so c m p q StaysGone e = refl
+
+turn_gone : (c : Cluster) (m : Machine) (h new : Hosted) → region_of c new.region.number m ≡ Some h → Turns c m h.place new.place → (r : ℕ) → StandsGone (of c m).regions r → StandsGone (replace (is_region new.region.number) new (of c m).regions) r
+turn_gone c m h new there turns r p = elim (turned_found h new (of c m).regions there r p.0 p.1) [
+  | inl f ↦ (new, f.1, gone_stays_so c m h.place new.place turns (ap (λ (g : Hosted). g.place) (sym f.0) ∙ p.2))
+  | inr f ↦ (p.0, f, p.2)
+]
+
 turn_seats : (c : Cluster) (m : Machine) (h new : Hosted) → region_of c new.region.number m ≡ Some h → new.region ≡ h.region → Turns c m h.place new.place → SeatIn (of c m) → SeatSide (of c m).servers (replace (is_region new.region.number) new (of c m).regions) (of c m).commits
 turn_seats c m h new there same turns o = record {
   servers_differ = o.servers_differ;
@@ -253,12 +283,15 @@ turn_seats c m h new there same turns o = record {
       (turn_works c m h.place new.place turns (All_found (Works (of c m).servers) (is_region new.region.number) (of c m).regions h there o.working)) o.working;
   placed = All_both (λ v i a. All_both (λ x j p. turn_placed c m h new there same turns o v i x j p) v.pending (all_in v.pending) a) (of c m).servers (all_in (of c m).servers) o.placed;
   known = All_weaker (λ x p. turn_known h new (of c m).regions there same x.region p) (of c m).commits o.known;
+  parents = (let all : FromGone (replace (is_region new.region.number) new (of c m).regions) (of c m).regions = All_weaker (λ g a. All_weaker (λ r p. turn_gone c m h new there turns r p) g.region.parents a) (of c m).regions o.parents in
+    let its : Region → Type 0 = λ (r : Region). AllByRecursion (StandsGone (replace (is_region new.region.number) new (of c m).regions)) r.parents in
+    All_replaced (λ (g : Hosted). its g.region) (is_region new.region.number) new (of c m).regions (subst its (sym same) (All_found (λ (g : Hosted). its g.region) (is_region new.region.number) (of c m).regions h there all)) all);
 }
 
 -- regions come, and a server
 
-join_seats : {servers : List Server} {regions : List Hosted} {commits : List Commit} (hs : List Hosted) → Numbered (length regions + 1) (region_numbers hs) → AllByRecursion (λ (h : Hosted). h.place ≡ place.Off) hs → SeatSide servers regions commits → SeatSide servers (regions ++ hs) commits
-join_seats {servers} {regions} {commits} hs behind off o =
+join_seats : {servers : List Server} {regions : List Hosted} {commits : List Commit} (hs : List Hosted) → Numbered (length regions + 1) (region_numbers hs) → AllByRecursion (λ (h : Hosted). h.place ≡ place.Off) hs → FromGone regions hs → SeatSide servers regions commits → SeatSide servers (regions ++ hs) commits
+join_seats {servers} {regions} {commits} hs behind off gone o =
     let long : length (region_numbers regions) ≡ length regions = length_mapped (λ (h : Hosted). h.region.number) regions in
     let next : length regions + 1 ≡ 1 + length (region_numbers regions) = omega (arith, long) in
     record {
@@ -268,6 +301,9 @@ join_seats {servers} {regions} {commits} hs behind off o =
       working = All_append (Works servers) regions hs o.working (All_weaker (λ h e s t. absurd (false≢true (sym (ap (works_at s) e) ∙ t))) hs off);
       placed = All_weaker (λ v a. All_weaker (λ x p. (p.0, find_more (is_region x.region.number) p.0 regions hs p.1, p.2, p.3)) v.pending a) servers o.placed;
       known = All_weaker (λ x p. (p.0, find_more (is_region x.region.number) p.0 regions hs p.1, p.2)) commits o.known;
+      parents = (let still : (r : ℕ) → StandsGone regions r → StandsGone (regions ++ hs) r = λ r p. (p.0, find_more (is_region r) p.0 regions hs p.1, p.2) in
+        All_append (λ (h : Hosted). AllByRecursion (StandsGone (regions ++ hs)) h.region.parents) regions hs
+        (All_weaker (λ h a. All_weaker (λ r p. still r p) h.region.parents a) regions o.parents) (All_weaker (λ h a. All_weaker (λ r p. still r p) h.region.parents a) hs gone));
     }
 
 come_seats : {servers : List Server} {regions : List Hosted} {commits : List Commit} (s : ℕ) (dual : Bool) → find (is_server s) servers ≡ None → SeatSide servers regions commits → SeatSide (servers ++ new_server s dual ∷ []) regions commits
@@ -278,6 +314,7 @@ come_seats {servers} {regions} {commits} s dual none o = let new : Server = new_
   working = All_weaker (λ h w n t. (let f = w n t in (f.0, find_more (is_server n) f.0 servers (new ∷ []) f.1, f.2))) regions o.working;
   placed = All_append (AllPlaced regions) servers (new ∷ []) o.placed (tt, tt);
   known = o.known;
+  parents = o.parents;
 }
 
 -- a server dies
@@ -322,6 +359,8 @@ die_seats {servers} {regions} {commits} v there o =
       ))) regions o.working);
       placed = All_replaced (AllPlaced (map (bereft s) regions)) (is_server s) dead servers (All_found (AllPlaced (map (bereft s) regions)) (is_server s) servers v there kept) kept;
       known = All_weaker (λ x p. (bereft s p.0, death_found s x.region.number regions p.0 p.1, p.2)) commits o.known;
+      parents = All_mapped (λ (h : Hosted). AllByRecursion (StandsGone (map (bereft s) regions)) h.region.parents) (bereft s) regions
+          (All_weaker (λ h a. All_weaker (λ r p. (bereft s p.0, death_found s r regions p.0 p.1, ap (after_death s) p.2)) h.region.parents a) regions o.parents);
     }
 
 pub act_seats : (m new : Machine) → Act m new → Seats m → Seats new
@@ -331,7 +370,7 @@ act_seats m new (ServerJoins c pair s none) k = seats_with c pair _ m (come_seat
 act_seats m new (ServerStands c pair v whole lowest found) k = let o = seats_at c pair m k in
     seats_with c pair _ m (server_seats v (record v { whole = whole; lowest = lowest }) found refl (All_found Rests (is_server v.number) (of c m).servers v found o.resting) (All_found (AllPlaced (of c m).regions) (is_server v.number) (of c m).servers v found o.placed) o) k
 act_seats m new (ServerDies c pair v found live) k = seats_tickets _ _ (seats_with c pair _ m (die_seats v found (seats_at c pair m k)) k)
-act_seats m new (RegionsJoin c pair tables hs behind off more) k = seats_with c pair _ m (join_seats hs behind off (seats_at c pair m k)) k
+act_seats m new (RegionsJoin c pair tables hs behind off more gone) k = seats_with c pair _ m (join_seats hs behind off gone (seats_at c pair m k)) k
 act_seats m new (RegionTurns c pair h to found same turns) k = seats_with c pair _ m (turn_seats c m h to found same turns (seats_at c pair m k)) k
 act_seats m new (EntryPends c pair v x whole served room none titled) k = seats_with c pair _ m (pend_seats c m v x whole served (seats_at c pair m k)) k
 act_seats m new (PutPends c pair v x served room ticket titled) k = seats_tickets _ _ (seats_with c pair _ m (pend_seats c m v x true served (seats_at c pair m k)) k)

@@ -26,7 +26,7 @@ pub record Steady (m : Machine) : Type 0 where
   pub tabled : Tabled m
 
 nothing_seated : SeatIn empty_side
-nothing_seated = record { servers_differ = tt; resting = tt; numbered = tt; working = tt; placed = tt; known = tt }
+nothing_seated = record { servers_differ = tt; resting = tt; numbered = tt; working = tt; placed = tt; known = tt; parents = tt }
 
 nothing_promised : (c : Cluster) → PromiseSide c [] []
 nothing_promised c = record { promised = tt; rising = tt; single = λ v w i j x y a b k e f. absurd i }

@@ -172,7 +172,7 @@ act_tabled m new (ServerStands c pair v whole lowest found) k =
 act_tabled m new (ServerDies c pair v found live) k =
     let o = tabled_at c pair m k in
     tabled_tickets _ _ (tabled_with c pair _ m (server_tabled (record v { live = false }) (All_found AllTabled (is_server v.number) (of c m).servers v found o.pending) o) (covers_at c pair m k) (λ name h. h) k)
-act_tabled m new (RegionsJoin c pair tables hs behind off more) k =
+act_tabled m new (RegionsJoin c pair tables hs behind off more gone) k =
     let o = tabled_at c pair m k in
     tabled_with c pair _ m (record {
       pending = o.pending;
