@@ -14,7 +14,6 @@ mod puts;
 mod records;
 
 pub use accepting::{CurrentLog, accept, current_log, log_fits, mark};
-pub use accepting::{accept, log_fits};
 pub use committing::{CommitError, commit};
 pub use laws::a_refusal_leaves_all;
 pub use lines::{added_peer, find_line, find_shelf, is_live, set_landed, set_out, shelf_length};
