@@ -122,8 +122,8 @@ from_here n = omega arith
 pub ids_are_new : (s l : ℕ) (C : List Commit) (ps : List Pending) → AllByRecursion (λ (x : Commit). suc (commit_count x.region.number C) ≤ x.seq) (coming s l C ps)
 ids_are_new s l C [] = tt
 ids_are_new s l C (p ∷ ps) = let x : Commit = commit_of s l C p in (
-    from_here (commit_count p.region.number C),
-    All_weaker (λ (y : Commit) h. more (commit_count y.region.number C) (commit_count y.region.number (C ++ x ∷ [])) y.seq (grows (x.region.number == y.region.number) (commit_count y.region.number C) 0 (commit_count y.region.number (C ++ x ∷ [])) (count_push y.region.number C x)) h) (coming s l (C ++ x ∷ []) ps) (ids_are_new s l (C ++ x ∷ []) ps),
+  from_here (commit_count p.region.number C),
+  All_weaker (λ (y : Commit) h. more (commit_count y.region.number C) (commit_count y.region.number (C ++ x ∷ [])) y.seq (grows (x.region.number == y.region.number) (commit_count y.region.number C) 0 (commit_count y.region.number (C ++ x ∷ [])) (count_push y.region.number C x)) h) (coming s l (C ++ x ∷ []) ps) (ids_are_new s l (C ++ x ∷ []) ps),
 )
 
 older : (a b n m : ℕ) → suc n ≤ a → b ≤ m → m ≡ n → a ≡ b → ⊥
@@ -163,6 +163,6 @@ pub line_grows : (p : Peer) (t at s l : ℕ) (C : List Commit) (ps : List Pendin
 line_grows p t at s l C ps start counted low is =
     let N : List Commit = coming s l C ps in
     let all : server_commits t (C ++ N) ≡ server_commits t C ++ server_commits t N = server_append t C N in (
-    within at (length (server_commits t C)) (length (server_commits t N)) (length (server_commits t (C ++ N))) low (ap length all ∙ length-append (server_commits t C) (server_commits t N)),
-    queue_grows p t s l C ps start counted ∙ (ap (λ (zs : List Commit). zs ++ server_commits t N) is ∙ (sym (drop-append-le at (server_commits t C) (server_commits t N) low) ∙ ap (drop at) (sym all))),
+      within at (length (server_commits t C)) (length (server_commits t N)) (length (server_commits t (C ++ N))) low (ap length all ∙ length-append (server_commits t C) (server_commits t N)),
+      queue_grows p t s l C ps start counted ∙ (ap (λ (zs : List Commit). zs ++ server_commits t N) is ∙ (sym (drop-append-le at (server_commits t C) (server_commits t N) low) ∙ ap (drop at) (sym all))),
     )

@@ -11,6 +11,7 @@ pub mod Naming
 pub mod Places
 pub mod Reaching
 pub mod RecordsPut
+pub mod Settling
 pub mod Shelving
 pub mod Simple
 pub mod Staying

@@ -20,7 +20,6 @@ use Rattle.cluster_core.specs.Stands.{Stands}
 use Rattle.cluster_core.specs.Does.{Does}
 use Rattle.cluster_core.proofs.Answering.{refused, let_through, faulted_one, does}
 
-
 pub simple_refused : (rs : List (Bool × Refusal)) (sites : List Site) (said : Reply) (m : Machine) (r : Row) (why : Refusal) → first rs ≡ Some why → simple rs sites said m r ≡ answers (reply.Refused why) m
 simple_refused rs sites said m r why e = refused (first rs) why m (or_fault (fault_among sites said) said (λ _. m) r) e
 

@@ -59,7 +59,7 @@ index_same index side srv next there same now k =
     let found : find (is_server next.number) side.servers ≡ Some srv = ap (λ n. find (is_server n) side.servers) same ∙ there in
     record {
       traces = k.traces ∙ sym (map_same_at (trace_of side.commits side.servers) (trace_of side.commits (replace (is_server next.number) next side.servers)) side.regions
-      (λ j h e. same_trace _ _ _ _ h.flushed _ _ refl (pending_same h.region.number next.number srv next side.servers (sym same) refl found (ap (pending_count h.region.number) now) (server_at h.place)) refl));
+          (λ j h e. same_trace _ _ _ _ h.flushed _ _ refl (pending_same h.region.number next.number srv next side.servers (sym same) refl found (ap (pending_count h.region.number) now) (server_at h.place)) refl));
       shelves = k.shelves ∙ shelves_same side.commits side.servers next.number srv next (sym same) refl found;
       cells = k.cells;
     }

@@ -77,7 +77,10 @@ pub fn commit<V: Vault>(
     let log = host.log().number();
     let from = host.log().synced();
     match sync_at(&mut core.stations, own, at) {
-        Ok(done) => match core.index.absorb(alloc, server, log, from, done.entries.as_slice()) {
+        Ok(done) => match core
+            .index
+            .absorb(alloc, server, log, from, done.entries.as_slice())
+        {
             Ok(()) => Ok(done),
             Err(_) => Err(CommitError::Memory { changed: true }),
         },

@@ -45,15 +45,14 @@ returns-in-Ok-absorb-clause-does g c = λ side s here sealed o stands.
     let host = c.host_at-host.ensures here.station here.there in
     let entries = c.as_slice.ensures ∙ d.2.1 in
     let first = all_first core.own old new core side s c.args.at here d.0 stands o sealed small few frame c.as_slice.result.now c.number-log.result c.synced-from.result entries
-        (c.number-log.ensures ∙ (ap (λ (w : LogValue). w.number) c.log.ensures.log ∙ ap (λ h. h.log.number) host))
-        (c.synced-from.ensures ∙ (ap (λ (w : LogValue). w.synced) c.log-2.ensures.log ∙ ap (λ h. h.log.synced) host)) in
-    let server = ap (λ h. h.log.server) host in
-    (
+    (c.number-log.ensures ∙ (ap (λ (w : LogValue). w.number) c.log.ensures.log ∙ ap (λ h. h.log.number) host))
+    (c.synced-from.ensures ∙ (ap (λ (w : LogValue). w.synced) c.log-2.ensures.log ∙ ap (λ h. h.log.synced) host)) in
+    let server = ap (λ h. h.log.server) host in (
       ap length d.2.1 ∙ (ap length was.pending ∙ pending_long here.server.number here.server.log side.commits here.server.pending),
       d.2.2 ∙ here.stands.tickets,
       subst (λ (sts : List Station). Stands core.own new (record core { stations = sts; index = c.absorb.new.self }) (committed_side here.server (emptied here.server) here.server.pending side)) (sym d.1)
-      (synced core.own old new core side s c.args.at here d.0 stands o sealed small few frame c.absorb.new.self d.2.3 d.2.4
-      (c.in-Ok-absorb.ensures side here.server (emptied here.server) here.server.pending [] (sym (c.server-server.ensures ∙ (server ∙ ap (λ (w : LogValue). w.server) was.writer.same))) first refl refl o stands.index)),
+          (synced core.own old new core side s c.args.at here d.0 stands o sealed small few frame c.absorb.new.self d.2.3 d.2.4
+          (c.in-Ok-absorb.ensures side here.server (emptied here.server) here.server.pending [] (sym (c.server-server.ensures ∙ (server ∙ ap (λ (w : LogValue). w.server) was.writer.same))) first refl refl o stands.index)),
     )
 
 pub returns-in-Err-StoreFault-clause-does : goal.returns-in-Err-StoreFault-clause-does
