@@ -14,6 +14,7 @@ pub mod Places
 pub mod Seats
 pub mod Reaching
 pub mod RecordsPut
+pub mod Settling
 pub mod Shelving
 pub mod Simple
 pub mod Staying

@@ -1,0 +1,68 @@
+-- The row of a sync, and what memory and the store stand for after it.
+use Rattle.std.proofs.Common.{◌≡◌, false, Err, refl, ap, sym, ◌∙◌, subst}
+use Rattle.std.proofs.lemmas.Option.{same_Some}
+use Rattle.rep_vault.specs.Contents.{Contents}
+use Rattle.region_server.specs.Host.{IsHost}
+use Rattle.wal_roll.specs.Log.{Log}
+use Rattle.rep_model.specs.State.{of}
+use Rattle.cluster_core.specs.declared.parts.Station.{Station}
+use Rattle.cluster_core.specs.declared.parts.ClusterCore.{ClusterCore}
+use Rattle.cluster_core.specs.Logs.{log_of}
+use Rattle.cluster_core.proofs.Reaching.{orderly}
+use Rattle.log_events.proofs.Refused.{ready}
+use Rattle.log_events.proofs.SyncDone.{sync_refused, sync_failed, sync_done}
+use Rattle.log_events.proofs.syncing.sync.Goals as goal
+
+pub returns-in-Err-clause-does : goal.returns-in-Err-clause-does
+returns-in-Err-clause-does g c = λ m reached stands.
+    let core : ClusterCore = c.args.core.now in
+    let old : Contents = g.V.Vault.contents c.args.own.now in
+    sync_refused core.own c.args.server m old core c.in-Err.why (c.in-Err.ensures.state old (of core.own m) stands.servers) stands
+
+pub commit-requires-clause-stands : goal.commit-requires-clause-stands
+commit-requires-clause-stands g c = λ st there.
+    let core : ClusterCore = c.args.core.now in
+    let old : Contents = g.V.Vault.contents c.args.own.now in
+    let m = c.requires.0 in
+    let stands = c.requires.2 in
+    let k = c.in-Ok.ensures.state old (of core.own m) stands.servers in
+    let r = ready old (of core.own m) core.stations c.args.server c.in-Ok.at k.1 (orderly core.own stands.paired m c.requires.1) k.0 in
+    let same : k.1.station ≡ st = same_Some k.1.station st (sym k.1.there ∙ there) in
+    subst (λ (x : Station). ((log : Log) × IsHost old x.host log) × (x.host.log.broken ≡ false)) same ((log_of (of core.own m).commits k.1.server, r.host), r.whole)
+
+pub returns-in-Ok-commit-clause-does : goal.returns-in-Ok-commit-clause-does
+returns-in-Ok-commit-clause-does g c = λ m reached stands.
+    let core : ClusterCore = c.args.core.now in
+    let old : Contents = g.V.Vault.contents c.args.own.now in
+    let k = c.in-Ok.ensures.state old (of core.own m) stands.servers in
+    let o = orderly core.own stands.paired m reached in
+    let r = ready old (of core.own m) core.stations c.args.server c.in-Ok.at k.1 o k.0 in
+    let d = c.in-Ok-commit.ensures.does (of core.own m) c.args.server k.1 r.sealed o stands in
+    sync_done core.own c.args.server m k.1.server (g.V.Vault.contents c.commit.new.own) c.commit.new.core _ _ stands.paired reached k.0 k.1.known r.live stands.link (c.len.ensures ∙ d.0) d.1 d.2
+
+pub returns-in-Err-StoreFault-clause-does : goal.returns-in-Err-StoreFault-clause-does
+returns-in-Err-StoreFault-clause-does g c = λ m reached stands.
+    let core : ClusterCore = c.args.core.now in
+    let old : Contents = g.V.Vault.contents c.args.own.now in
+    let k = c.in-Ok.ensures.state old (of core.own m) stands.servers in
+    let o = orderly core.own stands.paired m reached in
+    let r = ready old (of core.own m) core.stations c.args.server c.in-Ok.at k.1 o k.0 in
+    let given = c.in-Err-StoreFault.ensures.does (of core.own m) c.args.server k.1 r.sealed o stands in
+    let d = rw c.in-Err-StoreFault.field-0-is at given in
+    sync_failed core.own c.args.server c.in-Err-StoreFault.count m k.1.server (g.V.Vault.contents c.commit.new.own) c.commit.new.core stands.paired k.0 k.1.known d
+
+pub returns-in-Err-StoreFault-clause-told : goal.returns-in-Err-StoreFault-clause-told
+returns-in-Err-StoreFault-clause-told g c =
+    let rise = c.in-Err-StoreFault.ensures.told c.in-Err-StoreFault.count (ap (λ e. Err e) c.in-Err-StoreFault.field-0-is) in
+    record { store_is = refl; count = rise.0; rose = rise.1 }
+
+pub returns-in-Err-Memory-clause-does : goal.returns-in-Err-Memory-clause-does
+returns-in-Err-Memory-clause-does g c = λ m reached stands unchanged.
+    let core : ClusterCore = c.args.core.now in
+    let old : Contents = g.V.Vault.contents c.args.own.now in
+    let k = c.in-Ok.ensures.state old (of core.own m) stands.servers in
+    let o = orderly core.own stands.paired m reached in
+    let r = ready old (of core.own m) core.stations c.args.server c.in-Ok.at k.1 o k.0 in
+    let given = c.in-Err-Memory.ensures.does (of core.own m) c.args.server k.1 r.sealed o stands in
+    let d = rw c.in-Err-Memory.field-0-is at given in
+    d unchanged

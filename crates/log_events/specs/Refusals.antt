@@ -1,0 +1,25 @@
+-- Why events of a server's log are refused.
+use Rattle.std.specs.Prelude.{ℕ, not, List, [], ◌∷◌, Bool, Option, find, is_none}
+use Rattle.rep_types.specs.declared.refusal.Refusal.{Refusal}
+use Rattle.rep_types.specs.declared.refusal.Refusal.TheVariants as refusal
+use Rattle.rep_model.specs.Keyed.{given, if_some}
+use Rattle.rep_model.specs.State.{is_server}
+use Rattle.rep_model.specs.Row.{first}
+use Rattle.rep_model.specs.declared.machine.Side.{Side}
+use Rattle.rep_model.specs.declared.machine.Server.{Server}
+use Rattle.cluster_core.specs.declared.parts.Station.{Station}
+
+-- the row's, of a sync
+abbrev pub sync_refusals : ℕ → Option Server → List (Bool × Refusal)
+sync_refusals s o =
+    (is_none o, refusal.NoServer)
+    ∷ (not (if_some o (λ srv. srv.live)), refusal.Dead s)
+    ∷ (not (if_some o (λ srv. srv.whole)), refusal.Broken (given o 0 (λ srv. srv.log)))
+    ∷ []
+
+abbrev pub sync_refusal : ℕ → Side → Option Refusal
+sync_refusal s side = first (sync_refusals s (find (is_server s) side.servers))
+
+-- those that a station knows of
+abbrev pub log_refusal : ℕ → Station → Option Refusal
+log_refusal s st = first ((not st.live, refusal.Dead s) ∷ (st.host.log.broken, refusal.Broken st.host.log.number) ∷ [])
