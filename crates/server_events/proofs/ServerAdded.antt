@@ -1,34 +1,31 @@
 -- A new server and its first log.
-use Rattle.std.proofs.Common.{ℕ, suc, ◌+◌, ◌<◌, ◌≤◌, ◌^◌, ◌≡◌, ◌==◌, ◌⊎◌, ◌&&◌, inl, inr, cond, not, Bool, true, false, List, [], ◌∷◌, ◌++◌, map, find, filter, drop, length, position, Option, Some, None, is_some, refl, ap, sym, ◌∙◌, subst, arith, eq-eqb, eqb-true, ne_eqb, add-one}
-use Rattle.std.specs.List.{AllByRecursion, list_any}
-use Rattle.std.specs.Prelude.{IfSome}
-use Rattle.std.specs.Option.{option_map}
-use Rattle.std.proofs.lemmas.Bool.{cond-true, cond-false, cond_both, cases_eq, true≢false, false≢true, and_left}
+use Rattle.std.proofs.Common.{ℕ, ◌<◌, ◌≤◌, ◌^◌, ◌≡◌, ◌==◌, ◌⊎◌, ◌&&◌, inl, inr, cond, not, Bool, true, false, List, [], ◌∷◌, ◌++◌, Result, Ok, map, find, filter, drop, position, Option, Some, None, is_some, is_none, refl, ap, sym, ◌∙◌, subst, arith, eq-eqb, ne_eqb}
+use Rattle.std.specs.List.{AllByRecursion}
+use Rattle.std.specs.Prelude.{IfSome, if◌then◌else◌}
+use Rattle.std.proofs.lemmas.Bool.{cond-true, cond-false, cond_both, cases_eq, and_left}
 use Rattle.std.proofs.lemmas.List.{map-append}
 use Rattle.std.proofs.lemmas.Option.{same_Some, none-some}
 use Rattle.rep_types.specs.declared.ids.Cluster.{Cluster}
 use Rattle.rep_types.specs.declared.ids.Cluster.TheVariants.{A, B, C}
-use Rattle.rep_types.specs.declared.record.Record.{Record}
+use Rattle.rep_types.specs.declared.state.Call.{Call}
 use Rattle.rep_types.specs.declared.state.Call.TheVariants as call
 use Rattle.rep_types.specs.declared.refusal.Refusal.{Refusal}
 use Rattle.rep_types.specs.declared.refusal.Refusal.TheVariants as refusal
 use Rattle.rep_types.specs.declared.reply.Reply.{Reply}
 use Rattle.rep_types.specs.declared.reply.Reply.TheVariants as reply
-use Rattle.rep_vault.specs.declared.store.Change.{Change}
 use Rattle.rep_vault.specs.Contents.{File, empty_file, Contents, changed, with_records}
 use Rattle.rep_vault.proofs.Frames.{files_records, stands_records, records_records}
-use Rattle.wal_roll.specs.Log.{Log, LogValue, wal, log_name, IsLog, IsWriter}
+use Rattle.wal_roll.specs.Log.{Log, LogValue, wal, log_name, writer_of, IsLog, IsWriter}
 use Rattle.wal_roll.specs.Steps.{MayCreate, OnlyFile, new_log}
 use Rattle.region_server.specs.Host.{HostValue}
 use Rattle.rep_model.specs.Keyed.{given}
-use Rattle.rep_model.specs.State.{of, with, is_server, is_peer, server_of, unlinked}
-use Rattle.rep_model.specs.Commits.{log_commits, pending_count}
+use Rattle.rep_model.specs.State.{of, with, other, is_server, is_peer, server_of, unlinked}
+use Rattle.rep_model.specs.Commits.{log_commits, pending_count, stands_in}
 use Rattle.rep_model.specs.Queues.{is_queued, queue}
-use Rattle.rep_model.specs.Peers.{is_removed}
-use Rattle.rep_model.specs.Row.{Row, answers, first, unless, or_fault, fault_among, site, is_site}
+use Rattle.rep_model.specs.Peers.{is_removed, is_dual_in}
+use Rattle.rep_model.specs.Row.{Row, answers, first, unless, or_fault, fault_among, site}
 use Rattle.rep_model.specs.Copies.{make_copy}
 use Rattle.rep_model.specs.LogEvents.{is_dual, is_fenced, copy_sites, left_copy, new_server, new_queue, server_queues, server_added, server_row}
-use Rattle.rep_model.specs.Runs.{state_of, IsLegal}
 use Rattle.rep_model.specs.declared.faults.Site.{Site}
 use Rattle.rep_model.specs.declared.machine.Machine.{Machine}
 use Rattle.rep_model.specs.declared.machine.Side.{Side}
@@ -38,29 +35,31 @@ use Rattle.rep_model.specs.declared.machine.Server.{Server}
 use Rattle.rep_model.specs.declared.machine.Peer.{Peer}
 use Rattle.rep_model.specs.declared.machine.Queue.{Queue}
 use Rattle.rep_model.specs.declared.machine.Commit.{Commit}
-use Rattle.rep_laws.proofs.Lists.{In, in_right, all_in, All_weaker, All_append}
+use Rattle.rep_model.proofs.Replacing.{find-absent}
+use Rattle.rep_laws.proofs.Lists.{In, all_in, All_weaker, All_append, All_dropped}
 use Rattle.rep_laws.proofs.Finding.{find_first, find_aside, find_more}
 use Rattle.rep_laws.proofs.CitedMore.{commits_are_in_logs, peer_is_found}
 use Rattle.cluster_core.specs.declared.parts.ClusterCore.{ClusterCore}
 use Rattle.cluster_core.specs.declared.parts.Station.{Station}
 use Rattle.cluster_core.specs.declared.parts.Shelf.{Shelf}
-use Rattle.cluster_core.specs.declared.parts.Line.{Line}
 use Rattle.cluster_core.specs.declared.parts.PeerLine.{PeerLine}
-use Rattle.cluster_core.specs.Texts.{RecordKey, OfTable, OfRegion, OfBarriers, OfServer, OfPeer, key_text, log_text}
+use Rattle.cluster_core.specs.Texts.{RecordKey, OfTable, OfRegion, OfBarriers, OfServer, OfPeer, log_text}
 use Rattle.cluster_core.specs.Changes.{setting}
 use Rattle.cluster_core.specs.Entries.{server_commits, entry_of}
-use Rattle.cluster_core.specs.Logs.{IsFresh, IsSealedLog, log_of}
-use Rattle.cluster_core.specs.Memory.{trace_of, history_of, server_at, pending_at, shelf_of, kept_after, peer_line, queue_of_line, IsAt}
-use Rattle.cluster_core.specs.Stands.{number_of, is_station, StationAt, Stands}
+use Rattle.cluster_core.specs.Logs.{IsFresh, log_of}
+use Rattle.cluster_core.specs.Memory.{trace_of, server_at, pending_at, shelf_of, kept_after, peer_line, queue_of_line, IsAt}
+use Rattle.cluster_core.specs.Stands.{number_of, is_station, ServerTold, StationStands, StationAt, Stands}
 use Rattle.cluster_core.specs.Does.{Does, Reached}
+use Rattle.cluster_core.proofs.Answering.{faulted_one}
 use Rattle.cluster_core.proofs.Naming.{named_apart}
 use Rattle.cluster_core.proofs.Frames.{SameLogs, station_same}
-use Rattle.cluster_core.proofs.Places.{map_same_at}
-use Rattle.cluster_core.proofs.Tracing.{same_trace}
-use Rattle.cluster_core.proofs.RecordsPut.{Owes, Put, IsDue, IsAside, change_of, records_put}
+use Rattle.cluster_core.proofs.RecordsPut.{Owes, Put, IsAside, change_of, records_put, records_kept}
 use Rattle.cluster_core.proofs.Simple.{simple_refused, simple_faulted, simple_done, does_with, does_nothing}
 use Rattle.cluster_core.proofs.Staying.{station_beside, number_is, lines_kept}
 use Rattle.server_events.specs.Effects.{new_line, server_lines, new_shelf, new_station, with_server}
+
+pub same_ok : {T E : Type 0} (x y : T) → ◌≡◌ {A = Result T E} (Ok x) (Ok y) → x ≡ y
+same_ok x y e = cc
 
 -- ---- the log's file
 
@@ -85,16 +84,302 @@ module _ (s : ℕ) (small : s < 2 ^ 32) (c c' : Contents) (frame : OnlyFile wal 
 one_or : (l : ℕ) → (1 ≡ l) ⊎ (1 ≡ l → ⊥)
 one_or l = cases_eq 1 l
 
+-- no log of a server that isn't there has begun
+fresh : (own : Cluster) (c : Contents) (core : ClusterCore) (side : Side) (s : ℕ) → Stands own c core side → find (is_station s) core.stations ≡ None → find (is_server s) side.servers ≡ None → (l : ℕ) → IsFresh (c.files wal (log_name s l))
+fresh own c core side s stands no_station no_server = absent (find (is_station s) core.stations) (find (is_server s) side.servers) no_station no_server (stands.servers s)
+  where
+    absent : (o : Option Station) (p : Option Server) → o ≡ None → p ≡ None → StationAt c side s o p → (l : ℕ) → IsFresh (c.files wal (log_name s l))
+    absent None None a b k = k
+    absent (Some st) p a b k = absurd (none-some st (sym a))
+    absent None (Some srv) a b k = absurd k
+
 -- a file of a failed attempt is fresh
 module _ (own : Cluster) (c c' : Contents) (core : ClusterCore) (side : Side) (s : ℕ) (small : s < 2 ^ 32) (stands : Stands own c core side)
     (no_station : find (is_station s) core.stations ≡ None) (no_server : find (is_server s) side.servers ≡ None) where
-  fresh : (l : ℕ) → IsFresh (c.files wal (log_name s l))
-  fresh = absent (find (is_station s) core.stations) (find (is_server s) side.servers) no_station no_server (stands.servers s)
+  -- where a log is made and nothing else
+  pub file_made : (w : LogValue) → OnlyFile wal (log_name s 1) c c' → IsWriter c' w (new_log s 1) → Stands own c' core side
+  file_made w frame writer = record {
+    own_is = stands.own_is;
+    paired = stands.paired;
+    folder = ap (λ (f : List ℕ → Bool). f wal) frame.stands ∙ stands.folder;
+    regions = stands.regions;
+    index = stands.index;
+    servers = λ k. elim (cases_eq s k) [
+      | inl e ↦ subst (λ n. StationAt c' side n (find (is_station n) core.stations) (find (is_server n) side.servers)) e
+          (subst (λ (o : Option Station). StationAt c' side s o (find (is_server s) side.servers)) (sym no_station) (subst (λ (p : Option Server). StationAt c' side s None p) (sym no_server) still_fresh))
+      | inr apart ↦ station_same c c' side k (find (is_station k) core.stations) (find (is_server k) side.servers) (number_is k side.servers) (other_logs s small c c' frame k apart) (stands.servers k)
+    ];
+    queues = stands.queues;
+    records = records_kept c c' side side frame.records stands.records (λ k _ o h. h);
+    framed = stands.framed;
+    link = stands.link;
+  }
     where
-      absent : (o : Option Station) (p : Option Server) → o ≡ None → p ≡ None → StationAt c side s o p → (l : ℕ) → IsFresh (c.files wal (log_name s l))
-      absent None None a b k = k
-      absent (Some st) p a b k = absurd (none-some st (sym a))
-      absent None (Some srv) a b k = absurd k
+      still_fresh : (l : ℕ) → IsFresh (c'.files wal (log_name s l))
+      still_fresh l = elim (one_or l) [
+        | inl e ↦ inr (ap (λ n. c'.files wal (log_name s n)) (sym e) ∙ made_empty s 1 (c'.files wal (log_name s 1)) writer.file)
+        | inr apart ↦ subst IsFresh (later_logs s small c c' frame l apart) (fresh own c core side s stands no_station no_server l)
+      ]
 
-  pub may_create : MayCreate c s 1
-  may_create = record { stands = stands.folder; free = fresh_or_empty (c.files wal (log_name s 1)) (fresh 1) }
+-- ---- what a server that isn't there has
+
+module _ (s : ℕ) (commits : List Commit) (none : AllByRecursion (λ (x : Commit). (x.server == s) ≡ false) commits) where
+  no_commits : server_commits s commits ≡ []
+  no_commits = by commits none
+    where
+      by : (xs : List Commit) → AllByRecursion (λ (x : Commit). (x.server == s) ≡ false) xs → server_commits s xs ≡ []
+      by [] a = refl
+      by (x ∷ xs) a = cond-false (x.server == s) (x ∷ server_commits s xs) (server_commits s xs) a.0 ∙ by xs a.1
+
+  no_log : (l : ℕ) → log_commits s l commits ≡ []
+  no_log l = by commits none
+    where
+      by : (xs : List Commit) → AllByRecursion (λ (x : Commit). (x.server == s) ≡ false) xs → log_commits s l xs ≡ []
+      by [] a = refl
+      by (x ∷ xs) a = cond-false ((x.server == s) && (x.log == l)) (x ∷ log_commits s l xs) (log_commits s l xs) (and_left (x.server == s) (x.log == l) a.0) ∙ by xs a.1
+
+  no_queue : (p : Peer) → queue p s commits ≡ []
+  no_queue p = by (drop p.start commits) (All_dropped (λ (x : Commit). (x.server == s) ≡ false) p.start commits none)
+    where
+      by : (xs : List Commit) → AllByRecursion (λ (x : Commit). (x.server == s) ≡ false) xs → filter (is_queued p s) xs ≡ []
+      by [] a = refl
+      by (x ∷ xs) a = cond-false (is_queued p s x) (x ∷ filter (is_queued p s) xs) (filter (is_queued p s) xs) (and_left (x.server == s) (not (stands_in p.recorded x)) a.0) ∙ by xs a.1
+
+-- ---- regions and queues beside a new server
+
+module _ (s : ℕ) (servers : List Server) where
+  abbrev srv : Server
+  srv = new_server s false
+
+  pending_beside : (r : ℕ) (o : Option ℕ) → pending_at r (servers ++ srv ∷ []) o ≡ pending_at r servers o
+  unfolding given
+  pending_beside r None = refl
+  pending_beside r (Some t) = by (find (is_server t) servers) refl
+    where
+      by : (o : Option Server) → find (is_server t) servers ≡ o → pending_at r (servers ++ srv ∷ []) (Some t) ≡ pending_at r servers (Some t)
+      by (Some v) e = ap (λ (o : Option Server). given o 0 (λ w. pending_count r w.pending)) (find_more (is_server t) v servers (srv ∷ []) e ∙ sym e)
+      by None e =
+          ap (λ (o : Option Server). given o 0 (λ w. pending_count r w.pending)) (find_first (is_server t) servers (srv ∷ []) e)
+          ∙ (cond_both (s == t) (Some srv) None (λ (o : Option Server). given o 0 (λ w. pending_count r w.pending) ≡ 0) (λ _. refl) (λ _. refl)
+          ∙ sym (ap (λ (o : Option Server). given o 0 (λ w. pending_count r w.pending)) e))
+
+  traces_beside : (commits : List Commit) (regions : List Hosted) → map (trace_of commits servers) regions ≡ map (trace_of commits (servers ++ srv ∷ [])) regions
+  traces_beside commits [] = refl
+  traces_beside commits (h ∷ hs) = λ i. record (trace_of commits servers h) { pending = sym (pending_beside h.region.number (server_at h.place)) i } ∷ traces_beside commits hs i
+
+queues_of_lines : (s : ℕ) (ps : List Peer) → map queue_of_line (server_lines s (map peer_line ps)) ≡ server_queues s ps
+queues_of_lines s [] = refl
+queues_of_lines s (p ∷ ps) = by (is_removed p.standing) (queues_of_lines s ps)
+  where
+    by : (b : Bool) → map queue_of_line (server_lines s (map peer_line ps)) ≡ server_queues s ps
+        → map queue_of_line (cond b (server_lines s (map peer_line ps)) (new_line p.number s 0 ∷ server_lines s (map peer_line ps))) ≡ cond b (server_queues s ps) (new_queue p.number s ∷ server_queues s ps)
+    by true e = e
+    by false e = ap (λ qs. new_queue p.number s ∷ qs) e
+
+-- each new queue is of a known peer, and empty
+lines_at : (side : Side) (s : ℕ) (ps : List Peer) → AllByRecursion (λ (p : Peer). find (is_peer p.number) side.peers ≡ Some p) ps → ((p : Peer) → queue p s side.commits ≡ []) → server_commits s side.commits ≡ []
+    → AllByRecursion (IsAt side) (server_lines s (map peer_line ps))
+lines_at side s [] known none empty = tt
+lines_at side s (p ∷ ps) known none empty =
+    cond_both (is_removed p.standing) (server_lines s (map peer_line ps)) (new_line p.number s 0 ∷ server_lines s (map peer_line ps)) (AllByRecursion (IsAt side))
+    (λ _. lines_at side s ps known.1 none empty)
+    (λ _. (record { peer = p; known = known.0; within = omega arith; queued = none p ∙ sym empty }, lines_at side s ps known.1 none empty))
+
+-- ---- memory and the store with the server
+
+abbrev pub side_after : ℕ → Side → Side
+side_after s side = record side { servers = side.servers ++ new_server s false ∷ []; queues = side.queues ++ server_queues s side.peers }
+
+abbrev new_host : LogValue → HostValue
+new_host w = record { log = w; pending = []; tickets = [] }
+
+module _ (own : Cluster) (c mid c' : Contents) (core : ClusterCore) (side : Side) (s : ℕ) (small : s < 2 ^ 32) (stands : Stands own c core side)
+    (no_station : find (is_station s) core.stations ≡ None) (no_server : find (is_server s) side.servers ≡ None) (w : LogValue)
+    (frame : OnlyFile wal (log_name s 1) c mid) (writer : IsWriter mid w (new_log s 1)) (put : c' ≡ with_records (setting (OfServer s) (log_text 1 false) ∷ []) mid)
+    (none : AllByRecursion (λ (x : Commit). (x.server == s) ≡ false) side.commits) (known : AllByRecursion (λ (p : Peer). find (is_peer p.number) side.peers ≡ Some p) side.peers) where
+  abbrev after : Side
+  after = side_after s side
+
+  abbrev joined : Server
+  joined = new_server s false
+
+  abbrev st : Station
+  st = new_station (new_host w)
+
+  files_are : c'.files ≡ mid.files
+  files_are = ap (λ (d : Contents). d.files) put ∙ files_records _ mid
+
+  log_is : new_log s 1 ≡ log_of side.commits joined
+  log_is = ap (λ (xs : List Commit). record (new_log s 1) { committed = map entry_of xs }) (sym (no_log s side.commits none 1))
+
+  server_is : w.server ≡ s
+  server_is = ap (λ (v : LogValue). v.server) writer.same
+
+  here_file : (l : ℕ) → (1 ≡ l → ⊥) → IsFresh (c'.files wal (log_name s l))
+  here_file l apart = subst IsFresh (later_logs s small c mid frame l apart ∙ ap (λ (f : List ℕ → List ℕ → Option File). f wal (log_name s l)) (sym files_are)) (fresh own c core side s stands no_station no_server l)
+
+  stands_here : StationStands c' after st joined
+  stands_here = record {
+    live = refl;
+    sealed = refl;
+    logs = record {
+      current = record {
+        writer = record {
+          same = writer.same ∙ ap writer_of log_is;
+          file = subst (λ (log : Log). IsLog (c'.files wal (log_name s 1)) log) log_is (subst (λ (f : List ℕ → List ℕ → Option File). IsLog (f wal (log_name s 1)) (new_log s 1)) (sym files_are) writer.file);
+        };
+        pending = refl;
+      };
+      earlier = λ l low below. absurd (omega arith);
+      later = λ l above. here_file l (λ e. omega arith);
+    };
+    tickets = refl;
+    framed = tt;
+  }
+
+  stands_there : (k : ℕ) → (s ≡ k → ⊥) → StationAt c' after k (find (is_station k) core.stations) (find (is_server k) side.servers)
+  stands_there k apart =
+      station_beside c' side after k (find (is_station k) core.stations) (find (is_server k) side.servers) refl
+      (station_same c c' side k (find (is_station k) core.stations) (find (is_server k) side.servers) (number_is k side.servers)
+      (λ l. other_logs s small c mid frame k apart l ∙ ap (λ (f : List ℕ → List ℕ → Option File). f wal (log_name k l)) (sym files_are)) (stands.servers k))
+
+  found_station : find (is_station s) (core.stations ++ st ∷ []) ≡ Some st
+  found_station = find_first (is_station s) core.stations (st ∷ []) no_station ∙ cond-true (w.server == s) (Some st) None (eq-eqb w.server s server_is)
+
+  found_server : find (is_server s) after.servers ≡ Some joined
+  found_server = find_first (is_server s) side.servers (joined ∷ []) no_server ∙ cond-true (s == s) (Some joined) None (eq-eqb s s refl)
+
+  servers_stand : (k : ℕ) → StationAt c' after k (find (is_station k) (core.stations ++ st ∷ [])) (find (is_server k) after.servers)
+  servers_stand k = elim (cases_eq s k) [
+    | inl e ↦ subst (λ n. StationAt c' after n (find (is_station n) (core.stations ++ st ∷ [])) (find (is_server n) after.servers)) e
+        (subst (λ (o : Option Station). StationAt c' after s o (find (is_server s) after.servers)) (sym found_station) (subst (λ (p : Option Server). StationAt c' after s (Some st) p) (sym found_server) stands_here))
+    | inr apart ↦
+        subst (λ (o : Option Station). StationAt c' after k o (find (is_server k) after.servers)) (sym (find_aside (is_station k) st core.stations (ne_eqb w.server k (λ e. apart (sym server_is ∙ e)))))
+        (subst (λ (p : Option Server). StationAt c' after k (find (is_station k) core.stations) p) (sym (find_aside (is_server k) joined side.servers (ne_eqb s k apart))) (stands_there k apart))
+  ]
+
+  abbrev puts : List Put
+  puts = record { key = OfServer s; value = Some (log_text 1 false) } ∷ []
+
+  others : (k : RecordKey) → number_of k < 2 ^ 32 → IsAside puts k → (o : Option (List ℕ)) → Owes side k o → Owes after k o
+  others (OfTable t) few aside o h = h
+  others (OfRegion r) few aside o h = h
+  others (OfBarriers r) few aside o h = h
+  others (OfServer k) few aside o h = subst (λ (p : Option Server). ServerTold o p) (sym (find_aside (is_server k) joined side.servers (ne_eqb s k (λ e. aside.0 (ap OfServer e))))) h
+  others (OfPeer p) few aside o h = h
+
+  pub server_stands : Stands own c' (with_server s (new_host w) core) after
+  server_stands = record {
+    own_is = stands.own_is;
+    paired = stands.paired;
+    folder = ap (λ (d : Contents). d.stands wal) put ∙ (ap (λ (f : List ℕ → Bool). f wal) (stands_records _ mid) ∙ (ap (λ (f : List ℕ → Bool). f wal) frame.stands ∙ stands.folder));
+    regions = stands.regions;
+    index = record {
+      traces = stands.index.traces ∙ traces_beside s side.servers side.commits side.regions;
+      shelves = ap (λ (xs : List Shelf). xs ++ new_shelf s ∷ []) stands.index.shelves
+          ∙ (ap (λ (xs : List Commit). map (shelf_of side.commits) side.servers ++ record { server = s; kept = kept_after [] xs } ∷ []) (sym (no_commits s side.commits none))
+          ∙ sym (map-append (shelf_of side.commits) side.servers (joined ∷ [])));
+      cells = stands.index.cells;
+    };
+    servers = servers_stand;
+    queues = record {
+      peers = stands.queues.peers;
+      plain = stands.queues.plain;
+      queues = map-append queue_of_line core.lines (server_lines s core.peers)
+          ∙ ((λ i. stands.queues.queues i ++ map queue_of_line (server_lines s (stands.queues.peers i))) ∙ ap (λ (qs : List Queue). side.queues ++ qs) (queues_of_lines s side.peers));
+      at = All_append (IsAt after) core.lines (server_lines s core.peers) (lines_kept side after core.lines refl (λ _ _ h. h) stands.queues.at)
+          (subst (λ (ps : List PeerLine). AllByRecursion (IsAt after) (server_lines s ps)) (sym stands.queues.peers) (lines_at after s side.peers known (no_queue s side.commits none) (no_commits s side.commits none)));
+    };
+    records = records_put c c' side after puts (ap (λ (d : Contents). d.records) put ∙ (records_records _ mid ∙ ap (λ (f : List ℕ → Option (List ℕ)). changed (map change_of puts) f) frame.records)) stands.records
+        (record { small = small; owed = subst (λ (p : Option Server). ServerTold (Some (log_text 1 false)) p) (sym found_server) (inl refl) }, tt) others;
+    framed = stands.framed;
+    link = stands.link;
+  }
+
+-- ---- the row
+
+abbrev refusals : Cluster → ℕ → Machine → List (Bool × Refusal)
+refusals own s m = (is_some (server_of own s m), refusal.Exists) ∷ []
+
+abbrev effect : Cluster → ℕ → Reply → Machine → Row
+effect own s said m =
+    unless (first ((is_fenced own m, refusal.Fenced) ∷ [])) m (
+    or_fault (fault_among (copy_sites own m (site own call.Put ∷ [])) said) said (λ failed. left_copy failed.call own s 1 m) (
+    answers reply.Done (make_copy (is_dual own m) own s 1 (server_added own s m))))
+
+-- the same by whether new logs are dual
+abbrev effect_by : Bool → Cluster → ℕ → Reply → Machine → Row
+effect_by dual own s said m =
+    unless (first ((dual && is_none (of (other own) m).link.folder, refusal.Fenced) ∷ [])) m (
+    or_fault (fault_among (if dual then site (other own) call.Create ∷ site own call.Put ∷ [] else site own call.Put ∷ []) said) said (λ failed. left_copy failed.call own s 1 m) (
+    answers reply.Done (make_copy dual own s 1 (
+    with own (record (of own m) { servers = (of own m).servers ++ new_server s dual ∷ []; queues = (of own m).queues ++ server_queues s (of own m).peers }) m))))
+
+not_dual : (own : Cluster) (m : Machine) → (of own m).link ≡ unlinked → is_dual own m ≡ false
+not_dual own m e = ap (λ (l : Link). is_dual_in l.state l.phase) e
+
+-- a failed put isn't a failed create
+put_is_other : (own : Cluster) (n : ℕ) → fault_among (site own call.Create ∷ []) (reply.StoreFault own call.Put n) ≡ None
+put_is_other A n = refl
+put_is_other B n = refl
+put_is_other C n = refl
+
+module _ (own : Cluster) (c : Contents) (core : ClusterCore) (s : ℕ) (m : Machine) (stands : Stands own c core (of own m)) where
+  pub server_refused : (v : Server) → server_of own s m ≡ Some v → Does own (server_row own s (reply.Refused refusal.Exists) m) m c core (reply.Refused refusal.Exists)
+  unfolding server_row
+  server_refused v e =
+      does_nothing own (server_row own s (reply.Refused refusal.Exists) m) m c core (reply.Refused refusal.Exists)
+      (simple_refused (refusals own s m) (site own call.Create ∷ []) (reply.Refused refusal.Exists) m (effect own s (reply.Refused refusal.Exists) m) refusal.Exists (ap (λ (o : Option Server). first ((is_some o, refusal.Exists) ∷ [])) e)) stands
+
+  module _ (none : server_of own s m ≡ None) where
+    let_in : first (refusals own s m) ≡ None
+    let_in = ap (λ (o : Option Server). first ((is_some o, refusal.Exists) ∷ [])) none
+
+    by_link : (said : Reply) → effect own s said m ≡ effect_by false own s said m
+    by_link said = ap (λ (d : Bool). effect_by d own s said m) (not_dual own m stands.link)
+
+    pub server_uncreated : (k : Call) (n : ℕ) (c' : Contents) → k ≡ call.Create → c' ≡ c → Does own (server_row own s (reply.StoreFault own k n) m) m c' core (reply.StoreFault own k n)
+    unfolding server_row
+    server_uncreated k n c' is same =
+        subst (λ (j : Call). Does own (server_row own s (reply.StoreFault own j n) m) m c' core (reply.StoreFault own j n)) (sym is) (
+        does_nothing own (server_row own s (reply.StoreFault own call.Create n) m) m c' core (reply.StoreFault own call.Create n)
+        (simple_faulted (refusals own s m) own call.Create n m (effect own s (reply.StoreFault own call.Create n) m) let_in) (subst (λ (d : Contents). Stands own d core (of own m)) (sym same) stands))
+
+    pub server_unput : (n : ℕ) (c' : Contents) → Stands own c' core (of own m) → Does own (server_row own s (reply.StoreFault own call.Put n) m) m c' core (reply.StoreFault own call.Put n)
+    unfolding server_row
+    server_unput n c' stands' =
+        does_nothing own (server_row own s (reply.StoreFault own call.Put n) m) m c' core (reply.StoreFault own call.Put n)
+        (simple_done (refusals own s m) (site own call.Create ∷ []) (reply.StoreFault own call.Put n) m (effect own s (reply.StoreFault own call.Put n) m) let_in (put_is_other own n)
+        ∙ (by_link (reply.StoreFault own call.Put n)
+        ∙ (ap (λ (o : Option Site). or_fault o (reply.StoreFault own call.Put n) (λ failed. left_copy failed.call own s 1 m) (answers reply.Done (with own (side_after s (of own m)) m))) (faulted_one own call.Put n)
+        ∙ ap (λ (d : Bool). answers (reply.StoreFault own call.Put n) (make_copy d own s 1 m)) (not_dual own m stands.link)))) stands'
+
+    -- no commit is of a server that isn't there
+    unused : Reached m → AllByRecursion (λ (x : Commit). (x.server == s) ≡ false) (of own m).commits
+    unused (journal, legal, is) = All_weaker (λ x i. other x i) (of own m).commits (all_in (of own m).commits)
+      where
+        other : (x : Commit) → In x (of own m).commits → (x.server == s) ≡ false
+        other x i =
+            let at : (v : Server) × (server_of own x.server m ≡ Some v) × (x.log ≤ v.log) × (1 ≤ x.log) =
+            subst (λ (k : Machine). In x (of own k).commits → (v : Server) × (server_of own x.server k ≡ Some v) × (x.log ≤ v.log) × (1 ≤ x.log)) is (commits_are_in_logs journal legal own stands.paired x) i in
+            ne_eqb x.server s (λ e. none-some at.0 (sym none ∙ (ap (λ k. server_of own k m) (sym e) ∙ at.1)))
+
+    known_peers : Reached m → AllByRecursion (λ (p : Peer). find (is_peer p.number) (of own m).peers ≡ Some p) (of own m).peers
+    known_peers (journal, legal, is) =
+        All_weaker (λ p i. subst (λ (k : Machine). In p (of own k).peers → find (is_peer p.number) (of own k).peers ≡ Some p) is (peer_is_found journal legal own stands.paired p) i) (of own m).peers (all_in (of own m).peers)
+
+    pub server_done : Reached m → s < 2 ^ 32 → None ≡ position (is_station s) core.stations → (mid c' : Contents) (w : LogValue) (core' : ClusterCore)
+        → OnlyFile wal (log_name s 1) c mid → IsWriter mid w (new_log s 1) → c' ≡ with_records (setting (OfServer s) (log_text 1 false) ∷ []) mid → core' ≡ with_server s (new_host w) core
+        → Does own (server_row own s reply.Done m) m c' core' reply.Done
+    unfolding server_row
+    server_done reached small absent mid c' w core' frame writer put made =
+        does_with own (server_row own s reply.Done m) m (side_after s (of own m)) c' core' reply.Done stands.paired
+        (simple_done (refusals own s m) (site own call.Create ∷ []) reply.Done m (effect own s reply.Done m) let_in refl ∙ by_link reply.Done)
+        (subst (λ (k : ClusterCore). Stands own c' k (side_after s (of own m))) (sym made)
+        (server_stands own c mid c' core (of own m) s small stands (find-absent (is_station s) core.stations (sym absent)) none w frame writer put (unused reached) (known_peers reached)))
+
+    pub may_create_log : None ≡ position (is_station s) core.stations → MayCreate c s 1
+    may_create_log absent = record { stands = stands.folder; free = fresh_or_empty (c.files wal (log_name s 1)) (fresh own c core (of own m) s stands (find-absent (is_station s) core.stations (sym absent)) none 1) }
+
+    pub unput_stands : s < 2 ^ 32 → None ≡ position (is_station s) core.stations → (mid : Contents) (w : LogValue) → OnlyFile wal (log_name s 1) c mid → IsWriter mid w (new_log s 1) → Stands own mid core (of own m)
+    unput_stands small absent mid w frame writer = file_made own c mid core (of own m) s small stands (find-absent (is_station s) core.stations (sym absent)) none w frame writer

@@ -1,53 +1,30 @@
-ghost use Rattle.std.specs.Prelude.{◌≡◌, ◌++◌, OnOk, IfOk};
+ghost use Rattle.std.specs.Prelude.{◌≡◌, ◌<◌, ◌^◌, false, OnOk, IfOk};
 ghost use Rattle.rep_types.specs.declared.event.Event.TheVariants as event;
 ghost use Rattle.rep_model.specs.State.{of};
-ghost use Rattle.rep_model.specs.Peers.{is_removed};
 ghost use Rattle.rep_model.specs.declared.machine.Machine.{Machine};
+ghost use Rattle.cluster_core.specs.Texts.{OfServer, log_text};
+ghost use Rattle.cluster_core.specs.Changes.{setting};
 ghost use Rattle.cluster_core.specs.Stands.{Stands};
 ghost use Rattle.cluster_core.specs.Does.{Standing, Reached, Answers, Counts, FaultTold};
-ghost use Rattle.server_events.specs.Effects.{server_lines, with_server};
+ghost use Rattle.server_events.specs.Effects.{with_server};
 
+use crate::lines::add_lines;
 use cluster_core::{
-    ClusterCore, CoreError, Line, PeerLine, Shelf, Station, Stored, put_records, server_change,
-    station_at,
+    ClusterCore, CoreError, Shelf, Station, Stored, put_records, server_change, station_at,
 };
 use region_server::Host;
-use rep_model::Standing;
 use rep_types::{Call, Items, Memory, Refusal, Reply, ServerId};
-use rep_vault::Vault;
+use rep_vault::{Change, Vault};
 use std::alloc::Global;
 use wal_roll::{LogError, LogWriter};
 
-fn is_removed(standing: Standing) -> bool
-    ensures { result ≡ is_removed standing }
+// The record of a new server, whose number is small.
+fn first_record(alloc: Global, server: ServerId) -> Result<Change, Memory>
+    ensures text { IfOk result (λ change. change ≡ setting (OfServer server) (log_text 1 false)) }
+    ensures small { server < 2 ^ 32 }
 {
-    match standing {
-        Standing::Enabled => false,
-        Standing::Disabled => false,
-        Standing::Removed => true,
-    }
-}
-
-// A queue of the server for each peer that isn't removed.
-fn add_lines(
-    lines: &mut Items<Line>,
-    server: ServerId,
-    peers: &Items<PeerLine>,
-) -> Result<(), Memory>
-    ensures { OnOk result (lines.new ≡ lines.old ++ server_lines server peers.now) }
-{
-    for peer in peers.as_slice() {
-        if !is_removed(peer.standing) {
-            lines.push(Line {
-                peer: peer.number,
-                server,
-                owner: server,
-                flight: None,
-                at: 0,
-            })?;
-        }
-    }
-    Ok(())
+    let _number = server.number();
+    server_change(alloc, server, 1, false)
 }
 
 // Puts the server into memory.
@@ -84,7 +61,7 @@ pub fn server<V: Vault>(
         Some(_) => return Ok(Reply::Refused(Refusal::Exists)),
         None => {}
     }
-    let Ok(change) = server_change(alloc, server, 1, false) else {
+    let Ok(change) = first_record(alloc, server) else {
         return Err(CoreError::Memory { changed: false });
     };
     let log = match LogWriter::create(alloc, own, server, 1) {
