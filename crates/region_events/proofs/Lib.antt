@@ -1,3 +1,2 @@
 pub mod TableAdded
 pub mod OpeningBegun
-pub mod Awaited

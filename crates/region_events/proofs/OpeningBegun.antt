@@ -56,7 +56,6 @@ use Rattle.cluster_core.proofs.Tracing.{number_at, same_trace}
 use Rattle.cluster_core.proofs.RecordsPut.{Owes, Put, IsDue, IsAside, change_of, records_put}
 use Rattle.cluster_core.proofs.Simple.{simple_refused, simple_faulted, simple_done, does_with, does_nothing}
 use Rattle.cluster_core.proofs.Staying.{servers_kept, lines_kept}
-use Rattle.region_events.proofs.Awaited.{opens_are_reached}
 use Rattle.region_events.specs.Refusals.{open_refusal}
 use Rattle.region_events.specs.Effects.{opened_trace, with_opening, opening_changes, IsPrepared}
 
@@ -338,21 +337,6 @@ module _ (own : Cluster) (c : Contents) (core : ClusterCore) (m : Machine) (stan
   unfolding given
   waits_none off s v known = ap (λ (o : Option Server). given o 0 (λ srv. pending_count number srv.pending)) known ∙ nowhere off v (found_in (is_server s) (of own m).servers v known)
 
-  -- no barrier of it is above the next sequence id
-  pub reached_barriers : AllByRecursion (λ n. n ≤ commit_count number (of own m).commits + 1) h.opens
-  reached_barriers =
-      subst (λ (n : Machine). In h (of own n).regions → AllByRecursion (λ k. k ≤ commit_count number (of own n).commits + 1) h.opens) reached.2
-      (λ i. opens_are_reached reached.0 reached.1 own stands.paired h i) (found_in (is_region number) (of own m).regions h there)
-
-  pub in_order : (n : ℕ) (t p : Trace) → slice_get core.index.traces (number - 1) ≡ Some p → n ≡ p.commits + 1 → slice_get core.index.traces (number - 1) ≡ Some t → (x : ℕ) → last_barrier t.barriers ≡ Some x → x ≤ n
-  in_order n t p e f g x last =
-      let same_p : p ≡ trace_of (of own m).commits (of own m).servers h = same_Some p (trace_of (of own m).commits (of own m).servers h) (sym e ∙ traced) in
-      let same_t : t ≡ trace_of (of own m).commits (of own m).servers h = same_Some t (trace_of (of own m).commits (of own m).servers h) (sym g ∙ traced) in
-      let is : n ≡ commit_count number (of own m).commits + 1 = f ∙ ap (λ (u : Trace). u.commits + 1) same_p in
-      let below : x ≤ commit_count number (of own m).commits + 1 =
-      all_at (λ k. k ≤ commit_count number (of own m).commits + 1) h.opens (length h.opens - 1) x reached_barriers (ap (λ (u : Trace). last_barrier u.barriers) (sym same_t) ∙ last) in
-      subst (λ k. x ≤ k) (sym is) below
-
   -- ---- the event, for the region's number
 
   pub begun : (s n : ℕ) (srv : Server) (changes : List Change) (c' : Contents) (core' : ClusterCore) → h.place ≡ Off → find (is_server s) (of own m).servers ≡ Some srv → None ≡ open_refusal own number s m
@@ -404,11 +388,6 @@ module _ (own : Cluster) (c : Contents) (core : ClusterCore) (r s : ℕ) (m : Ma
     pub open_traced : Reached m → r - 1 < length core.index.traces
     open_traced reached = within core.index.traces (r - 1) (trace_of (of own m).commits (of own m).servers a.hosted)
         (ap (λ k. slice_get core.index.traces (k - 1)) (sym number_of_it) ∙ traced own c core m stands reached a.hosted there_by_number)
-
-    pub open_ordered : Reached m → (n : ℕ) (changes : List Change) → IsPrepared core r s n changes → (t : Trace) → slice_get core.index.traces (r - 1) ≡ Some t → (x : ℕ) → last_barrier t.barriers ≡ Some x → x ≤ n
-    open_ordered reached n changes p t e =
-        in_order own c core m stands reached a.hosted there_by_number n t p.trace
-        (ap (λ k. slice_get core.index.traces (k - 1)) number_of_it ∙ p.there) p.barrier (ap (λ k. slice_get core.index.traces (k - 1)) number_of_it ∙ e)
 
     pub open_done : Reached m → (n : ℕ) (changes : List Change) (c' : Contents) (core' : ClusterCore) → IsPrepared core r s n changes → c' ≡ with_records changes c → core' ≡ with_opening r s n core
         → Does own (open_begin_row own r s (reply.Begun n) m) m c' core' (reply.Begun n)

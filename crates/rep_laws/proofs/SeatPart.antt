@@ -284,8 +284,8 @@ turn_seats c m h new there same turns o = record {
   placed = All_both (λ v i a. All_both (λ x j p. turn_placed c m h new there same turns o v i x j p) v.pending (all_in v.pending) a) (of c m).servers (all_in (of c m).servers) o.placed;
   known = All_weaker (λ x p. turn_known h new (of c m).regions there same x.region p) (of c m).commits o.known;
   parents = (let all : FromGone (replace (is_region new.region.number) new (of c m).regions) (of c m).regions = All_weaker (λ g a. All_weaker (λ r p. turn_gone c m h new there turns r p) g.region.parents a) (of c m).regions o.parents in
-    let its : Region → Type 0 = λ (r : Region). AllByRecursion (StandsGone (replace (is_region new.region.number) new (of c m).regions)) r.parents in
-    All_replaced (λ (g : Hosted). its g.region) (is_region new.region.number) new (of c m).regions (subst its (sym same) (All_found (λ (g : Hosted). its g.region) (is_region new.region.number) (of c m).regions h there all)) all);
+      let its : Region → Type 0 = λ (r : Region). AllByRecursion (StandsGone (replace (is_region new.region.number) new (of c m).regions)) r.parents in
+      All_replaced (λ (g : Hosted). its g.region) (is_region new.region.number) new (of c m).regions (subst its (sym same) (All_found (λ (g : Hosted). its g.region) (is_region new.region.number) (of c m).regions h there all)) all);
 }
 
 -- regions come, and a server
@@ -302,8 +302,8 @@ join_seats {servers} {regions} {commits} hs behind off gone o =
       placed = All_weaker (λ v a. All_weaker (λ x p. (p.0, find_more (is_region x.region.number) p.0 regions hs p.1, p.2, p.3)) v.pending a) servers o.placed;
       known = All_weaker (λ x p. (p.0, find_more (is_region x.region.number) p.0 regions hs p.1, p.2)) commits o.known;
       parents = (let still : (r : ℕ) → StandsGone regions r → StandsGone (regions ++ hs) r = λ r p. (p.0, find_more (is_region r) p.0 regions hs p.1, p.2) in
-        All_append (λ (h : Hosted). AllByRecursion (StandsGone (regions ++ hs)) h.region.parents) regions hs
-        (All_weaker (λ h a. All_weaker (λ r p. still r p) h.region.parents a) regions o.parents) (All_weaker (λ h a. All_weaker (λ r p. still r p) h.region.parents a) hs gone));
+          All_append (λ (h : Hosted). AllByRecursion (StandsGone (regions ++ hs)) h.region.parents) regions hs
+          (All_weaker (λ h a. All_weaker (λ r p. still r p) h.region.parents a) regions o.parents) (All_weaker (λ h a. All_weaker (λ r p. still r p) h.region.parents a) hs gone));
     }
 
 come_seats : {servers : List Server} {regions : List Hosted} {commits : List Commit} (s : ℕ) (dual : Bool) → find (is_server s) servers ≡ None → SeatSide servers regions commits → SeatSide (servers ++ new_server s dual ∷ []) regions commits
