@@ -4,4 +4,5 @@
 mod flights;
 mod recording;
 
+pub use flights::find_sent;
 pub use recording::confirm;

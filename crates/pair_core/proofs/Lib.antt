@@ -1,0 +1,4 @@
+mod Beginning
+mod Seen
+mod Steps
+mod Storing

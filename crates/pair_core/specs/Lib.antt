@@ -1,0 +1,5 @@
+pub mod Pair
+pub mod Performs
+pub mod Served
+pub mod Sides
+pub mod Stored

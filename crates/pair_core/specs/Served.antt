@@ -1,0 +1,36 @@
+-- Which events a pair performs today, and in which cluster each is performed.
+use Rattle.std.specs.Prelude.{ℕ, ◌≡◌, Bool, true, false, List, IfSome}
+use Rattle.rep_types.specs.declared.ids.Cluster.{Cluster}
+use Rattle.rep_types.specs.declared.ids.Cluster.TheVariants.{A, B, C}
+use Rattle.rep_types.specs.declared.event.Event.{Event}
+use Rattle.rep_types.specs.declared.event.Event.TheVariants as event
+use Rattle.rep_model.specs.Keyed.{given}
+use Rattle.cluster_core.specs.declared.parts.Sent.{Sent}
+use Rattle.queue_events.specs.Flights.{sent_at}
+
+abbrev pub is_served : Event → Bool
+is_served (event.Server c s) = true
+is_served (event.Table c t fs) = true
+is_served (event.OpenBegin c r s) = true
+is_served (event.Put c t k cells) = true
+is_served (event.Get c t k) = true
+is_served (event.Show c t) = true
+is_served (event.Sync c s) = true
+is_served (event.Confirm f) = true
+is_served _ = false
+
+-- the cluster that a flight was sent from; of one that isn't known any
+abbrev pub source_of : ℕ → List Sent → Cluster
+source_of k flights = given (sent_at k flights) A (λ f. f.cluster)
+
+-- where a served event is performed
+abbrev pub cluster_of : List Sent → Event → Cluster
+cluster_of flights (event.Server c s) = c
+cluster_of flights (event.Table c t fs) = c
+cluster_of flights (event.OpenBegin c r s) = c
+cluster_of flights (event.Put c t k cells) = c
+cluster_of flights (event.Get c t k) = c
+cluster_of flights (event.Show c t) = c
+cluster_of flights (event.Sync c s) = c
+cluster_of flights (event.Confirm f) = source_of f flights
+cluster_of flights _ = A

@@ -1,0 +1,40 @@
+-- What memory and both stores have to do with the machine's state.
+use Rattle.std.specs.Prelude.{ℕ, ◌≡◌, ◌≤◌, List, [], map, length}
+use Rattle.rep_types.specs.declared.ids.Cluster.{Cluster}
+use Rattle.rep_types.specs.declared.ids.Cluster.TheVariants.{A, B, C}
+use Rattle.rep_vault.specs.Contents.{Contents}
+use Rattle.rep_vault.specs.Tallies.{Tally, total}
+use Rattle.rep_model.specs.Runs.{Counts, count}
+use Rattle.rep_model.specs.declared.machine.Machine.{Machine}
+use Rattle.cluster_core.specs.Stands.{Stands, empty_core}
+use Rattle.cluster_core.specs.Does.{Reached, sent_of}
+use Rattle.pair_core.specs.declared.sides.Sides.{Sides}
+
+-- one thing of each of the two clusters
+pub record Both (X : Type 0) : Type 0 where
+  pub a : X
+  pub b : X
+
+abbrev pub of : {X : Type 0} → Cluster → Both X → X
+of A both = both.a
+of B both = both.b
+of C both = both.a
+
+-- each cluster in memory and its store stand for its side, the flights in memory are the machine's, and so many tickets were given
+pub record AllStand (stores : Both Contents) (sides : Sides) (m : Machine) : Type 0 where
+  pub a : Stands A stores.a sides.a m.a
+  pub b : Stands B stores.b sides.b m.b
+  pub flights : sides.flights ≡ map sent_of m.flights
+  pub tickets : sides.tickets ≡ length m.tickets
+
+-- they do for a state that some legal run leads to
+abbrev pub Standing : Both Contents → Sides → Type 0
+Standing stores sides = (m : Machine) × Reached m × AllStand stores sides m
+
+-- nothing in either
+abbrev pub empty_sides : Sides
+empty_sides = record { a = empty_core A; b = empty_core B; flights = []; tickets = 0 }
+
+-- a store's faults, told by the last record, are no more than it has counted
+abbrev pub Covers : Counts → Cluster → Tally → Type 0
+Covers told c tally = count c told ≤ total tally.faults

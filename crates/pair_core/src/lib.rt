@@ -1,0 +1,9 @@
+//! Two clusters in memory over two stores, and the journal of what happened to them, which is always legal.
+#![tactic(auto)]
+
+mod pair;
+mod performing;
+mod sides;
+
+pub use pair::{NoPair, Pair, StepError, Stores};
+pub use sides::Sides;

@@ -1,0 +1,209 @@
+// Two clusters over two stores, and the journal of what happened to them.
+ghost use Rattle.std.specs.Prelude.{◌≡◌, ◌-◌, ◌^◌, ◌<◌, ◌≤◌, ◌++◌, ◌↔◌, [], ◌∷◌, false, true, length, IfSome, IfOk, OnOk, OnErr, MatchResult, IsErrOf};
+ghost use Rattle.rep_vault.specs.Contents.{new_contents};
+ghost use Rattle.rep_vault.specs.Tallies.{total};
+ghost use Rattle.rep_model.specs.Keyed.{if_some};
+ghost use Rattle.rep_model.specs.State.{server_of};
+ghost use Rattle.rep_model.specs.Words.{is_paired, is_worded};
+ghost use Rattle.rep_model.specs.Runs.{IsLegal, state_of};
+ghost use Rattle.cluster_core.specs.Does.{Counts};
+ghost use Rattle.pair_core.specs.Pair.{both, IsSame, IsPlanned};
+ghost use Rattle.pair_core.specs.Performs.{FaultRose};
+ghost use Rattle.pair_core.specs.Served.{is_served};
+ghost use Rattle.pair_core.specs.Stored.{Stored};
+
+use crate::performing::perform;
+use crate::sides::Sides;
+use cluster_core::{CoreError, is_live};
+use rep_types::{Call, Cluster, Duplicate, Event, Memory, Record, Reply, ServerId};
+use rep_vault::Vault;
+use std::alloc::Global;
+use std::marker::Model;
+use thiserror::Error;
+
+/// Why an event wasn't performed; the first that holds.
+#[derive(Clone, Copy, Debug, PartialEq, Eq, Error)]
+pub enum StepError {
+    /// Memory ran out in an earlier step, behind a change.
+    #[error("spent")]
+    Spent,
+    /// The journal has 4,294,967,295 records.
+    #[error("too many records")]
+    Full,
+    #[error("out of memory")]
+    Memory,
+}
+
+/// The stores of a pair that couldn't be made for want of memory, as they were.
+#[derive(Drop)]
+pub struct NoPair<V: Vault> {
+    pub a: V,
+    pub b: V,
+}
+
+/// The two stores of a pair.
+#[derive(Drop)]
+pub struct Stores<V: Vault> {
+    pub a: V,
+    pub b: V,
+}
+
+/// Two clusters, each over its store, and their journal.
+#[derive(Drop)]
+pub struct Pair<V: Vault> {
+    sides: Sides,
+    journal: Vec<Record>,
+    spent: bool,
+    a: V,
+    b: V,
+}
+
+impl<V: Vault> Model for Pair<V> {
+    ghost use Rattle.pair_core.specs.Pair.{PairValue, IsPair};
+
+    ghost Value = { PairValue V };
+
+    ghost view = { λ p. record { journal = p.journal.items; spent = p.spent; a = p.a; b = p.b } };
+
+    ghost invariant = { λ p. IsPair V.contents V.tally p.journal.items p.spent p.sides p.a p.b };
+}
+
+impl<V: Vault> Pair<V> {
+    /// Two clusters with nothing in them, over stores as new.
+    pub fn new(alloc: Global, a: V, b: V) -> Result<Pair<V>, NoPair<V>>
+        requires a_is_new { V.contents a ≡ new_contents }
+        requires b_is_new { V.contents b ≡ new_contents }
+        ensures { MatchResult result (λ pair. pair ≡ record { journal = []; spent = false; a = a; b = b }) (λ left. left ≡ record { a = a; b = b }) }
+    {
+        let Ok(sides) = Sides::new(alloc) else {
+            return Err(NoPair { a, b });
+        };
+        Ok(Pair {
+            sides,
+            journal: Vec::new(alloc),
+            spent: false,
+            a,
+            b,
+        })
+    }
+
+    /// The records of all events so far.
+    pub fn journal(&self) -> &[Record]
+        ensures value { result.now ≡ self.now.journal }
+        ensures legal { IsLegal self.now.journal }
+        // Unless the pair is spent, the stores hold what the state after the journal has in logs and records.
+        ensures stored { self.now.spent ≡ false → Stored (both V.contents self.now.a self.now.b) (state_of self.now.journal) }
+    {
+        self.journal.as_slice()
+    }
+
+    /// One event: its reply, and the record of both.
+    pub fn step(&mut self, alloc: Global, event: Event, actor: u16) -> Result<Reply, StepError>
+        requires served { is_served event ≡ true }
+        requires worded { is_worded event ≡ true }
+        ensures recorded { IfOk result (λ reply. self.new.journal ≡ self.old.journal
+            ++ record { event = event; reply = reply; faults_a = total (V.tally self.new.a).faults; faults_b = total (V.tally self.new.b).faults; actor = actor } ∷ []) }
+        ensures usable { OnOk result (self.new.spent ≡ false) }
+        // A told fault was counted in this step, in the store and of the kind that it names.
+        ensures told { IfOk result (λ reply. FaultRose reply (both V.tally self.old.a self.old.b) (both V.tally self.new.a self.new.b)) }
+        ensures counts_a { Counts (V.tally self.old.a) (V.tally self.new.a) }
+        ensures counts_b { Counts (V.tally self.old.b) (V.tally self.new.b) }
+
+        // What a refusal leaves, and when it comes.
+        ensures err { OnErr result (self.new.journal ≡ self.old.journal) }
+        ensures unchanged { OnErr result (self.new.spent ≡ false → both V.contents self.new.a self.new.b ≡ both V.contents self.old.a self.old.b) }
+        ensures spent { IsErrOf result StepError.Spent ↔ (self.old.spent ≡ true) }
+        ensures full { IsErrOf result StepError.Full ↔ (self.old.spent ≡ false) × (2 ^ 32 - 1 ≤ length self.old.journal) }
+    {
+        if self.spent {
+            return Err(StepError::Spent);
+        }
+        if self.journal.len() >= u32::MAX as usize {
+            return Err(StepError::Full);
+        }
+        let Ok(()) = self.journal.reserve(1) else {
+            return Err(StepError::Memory);
+        };
+        self.spent = true;
+        let reply = match perform(&mut self.sides, alloc, &mut self.a, &mut self.b, &event) {
+            Ok(reply) => reply,
+            Err(CoreError::Memory { changed }) => {
+                self.spent = changed;
+                return Err(StepError::Memory);
+            }
+        };
+        let Ok(kept) = reply.copy(alloc) else {
+            return Err(StepError::Memory);
+        };
+        let record = Record {
+            event,
+            reply: kept,
+            faults_a: self.a.faults(),
+            faults_b: self.b.faults(),
+            actor,
+        };
+        let Ok(()) = self.journal.push(record) else {
+            unreachable!()
+        };
+        self.spent = false;
+        Ok(reply)
+    }
+
+    /// Whether a server is there and lives.
+    pub fn is_live(&self, cluster: Cluster, server: ServerId) -> bool
+        requires paired { is_paired cluster ≡ true }
+        ensures { self.now.spent ≡ false → result ≡ if_some (server_of cluster server (state_of self.now.journal)) (λ srv. srv.live) }
+    {
+        match cluster {
+            Cluster::A => is_live(&self.sides.a.stations, server),
+            Cluster::B => is_live(&self.sides.b.stations, server),
+            Cluster::C => unreachable!(),
+        }
+    }
+
+    /// Asks that the `nth` next call of a kind fail in the cluster's store, and an append leave the first `bytes` of its
+    /// piece.
+    pub fn plan_failure(
+        &mut self,
+        cluster: Cluster,
+        call: Call,
+        nth: u32,
+        bytes: u32,
+    ) -> Result<(), Memory>
+        requires paired { is_paired cluster ≡ true }
+        requires nth { 1 ≤ nth }
+        requires room_a { IfSome (V.tally self.old.a).planned (λ n. n < 2 ^ 32 - 1) }
+        requires room_b { IfSome (V.tally self.old.b).planned (λ n. n < 2 ^ 32 - 1) }
+        ensures same { IsSame V.contents self.old self.new }
+        ensures planned { IsPlanned cluster (both V.tally self.old.a self.old.b) (both V.tally self.new.a self.new.b) result }
+    {
+        match cluster {
+            Cluster::A => self.a.plan_failure(call, nth, bytes),
+            Cluster::B => self.b.plan_failure(call, nth, bytes),
+            Cluster::C => unreachable!(),
+        }
+    }
+
+    /// Asks that the next seal of an unsealed file in the cluster's store keep so many bytes of what isn't synced.
+    pub fn plan_keep(&mut self, cluster: Cluster, bytes: u64) -> Result<(), Memory>
+        requires paired { is_paired cluster ≡ true }
+        ensures same { IsSame V.contents self.old self.new }
+        ensures counts { both V.tally self.new.a self.new.b ≡ both V.tally self.old.a self.old.b }
+    {
+        match cluster {
+            Cluster::A => self.a.plan_keep(bytes),
+            Cluster::B => self.b.plan_keep(bytes),
+            Cluster::C => unreachable!(),
+        }
+    }
+
+    /// Hands both stores back.
+    pub fn into_stores(self) -> Stores<V>
+        ensures { result ≡ record { a = self.a; b = self.b } }
+    {
+        Stores {
+            a: self.a,
+            b: self.b,
+        }
+    }
+}

@@ -1,0 +1,134 @@
+// One event, performed by its cluster.
+ghost use Rattle.std.specs.Prelude.{◌≡◌, ◌+◌, ◌-◌, ◌^◌, ◌<◌, IfOk, length, map, true};
+ghost use Rattle.rep_types.specs.declared.event.Event.TheVariants as event;
+ghost use Rattle.rep_model.specs.State.{of};
+ghost use Rattle.rep_model.specs.Words.{is_worded};
+ghost use Rattle.rep_model.specs.declared.machine.Machine.{Machine};
+ghost use Rattle.cluster_core.specs.Stands.{Stands};
+ghost use Rattle.cluster_core.specs.Does.{Reached, Standing, sent_of, Counts, FaultTold, Answers, FliesOr};
+ghost use Rattle.pair_core.specs.Served.{is_served, cluster_of};
+ghost use Rattle.pair_core.specs.Sides.{Standing as AllStanding, AllStand};
+ghost use Rattle.pair_core.specs.Pair.{both};
+ghost use Rattle.pair_core.specs.Performs.{Performs, FaultRose};
+
+use crate::sides::{Sides, accepted, cluster_of};
+use cluster_core::{ClusterCore, CoreError, Sent};
+use log_events::sync;
+use queue_events::confirm;
+use read_events::{get, show};
+use region_events::{open_begin, table};
+use rep_types::{Cells, Cluster, Duplicate, Event, Families, Items, Key, Name, Reply};
+use rep_vault::Vault;
+use server_events::server;
+use std::alloc::Global;
+use write_events::put;
+
+// Makes a table of copies of these words.
+fn make_table<V: Vault>(
+    core: &mut ClusterCore,
+    alloc: Global,
+    own: &mut V,
+    name: &Name,
+    families: &Families,
+) -> Result<Reply, CoreError>
+    requires { Standing core.old.own (V.contents own.old) core.old }
+    ensures does { (m : Machine) → Reached m → Stands core.old.own (V.contents own.old) core.old (of core.old.own m)
+        → Answers core.old.own (event.Table core.old.own name.now families.now) m (V.contents own.old) core.old (V.contents own.new) core.new result }
+    ensures counts { Counts (V.tally own.old) (V.tally own.new) }
+    ensures told { IfOk result (λ reply. FaultTold core.old.own reply (V.tally own.old) (V.tally own.new)) }
+{
+    let Ok(name) = name.copy(alloc) else {
+        return Err(CoreError::Memory { changed: false });
+    };
+    let Ok(families) = families.copy(alloc) else {
+        return Err(CoreError::Memory { changed: false });
+    };
+    table(core, alloc, own, name, families)
+}
+
+// Puts copies of these cells.
+fn put_cells<V: Vault>(
+    core: &mut ClusterCore,
+    alloc: Global,
+    own: &mut V,
+    table: &Name,
+    row: &Key,
+    cells: &Cells,
+    ticket: u32,
+) -> Result<Reply, CoreError>
+    requires standing { Standing core.old.own (V.contents own.old) core.old }
+    requires worded { is_worded (event.Put core.old.own table.now row.now cells.now) ≡ true }
+    ensures does { (m : Machine) → Reached m → Stands core.old.own (V.contents own.old) core.old (of core.old.own m) → ticket ≡ length m.tickets + 1
+        → Answers core.old.own (event.Put core.old.own table.now row.now cells.now) m (V.contents own.old) core.old (V.contents own.new) core.new result }
+    ensures counts { Counts (V.tally own.old) (V.tally own.new) }
+    ensures told { IfOk result (λ reply. FaultTold core.old.own reply (V.tally own.old) (V.tally own.new)) }
+{
+    let Ok(cells) = cells.copy(alloc) else {
+        return Err(CoreError::Memory { changed: false });
+    };
+    put(core, alloc, own, table, row, cells, ticket)
+}
+
+// One event of this cluster.
+fn on_side<V: Vault>(
+    core: &mut ClusterCore,
+    alloc: Global,
+    own: &mut V,
+    flights: &Items<Sent>,
+    tickets: u32,
+    event: &Event,
+) -> Result<Reply, CoreError>
+    requires standing { Standing core.old.own (V.contents own.old) core.old }
+    requires served { is_served event.now ≡ true }
+    requires worded { is_worded event.now ≡ true }
+    requires here { cluster_of flights.now event.now ≡ core.old.own }
+    requires room { tickets < 2 ^ 32 - 1 }
+    ensures does { (m : Machine) → Reached m → Stands core.old.own (V.contents own.old) core.old (of core.old.own m) → flights.now ≡ map sent_of m.flights → tickets ≡ length m.tickets
+        → FliesOr core.old.own event.now m (V.contents own.old) core.old flights.now (V.contents own.new) core.new flights.now result }
+    ensures counts { Counts (V.tally own.old) (V.tally own.new) }
+    ensures told { IfOk result (λ reply. FaultTold core.old.own reply (V.tally own.old) (V.tally own.new)) }
+{
+    match event {
+        Event::Server { server: number, .. } => server(core, alloc, own, *number),
+        Event::Table {
+            table: name, specs, ..
+        } => make_table(core, alloc, own, name, specs),
+        Event::OpenBegin { region, server, .. } => open_begin(core, alloc, own, *region, *server),
+        Event::Put {
+            table, row, cells, ..
+        } => put_cells(core, alloc, own, table, row, cells, tickets + 1),
+        Event::Get { table, row, .. } => get(alloc, core, table, row),
+        Event::Show { table, .. } => show(alloc, core, table),
+        Event::Sync { server, .. } => sync(core, alloc, own, *server),
+        Event::Confirm { flight } => confirm(core, flights, *flight),
+        _ => unreachable!(),
+    }
+}
+
+/// One event: its reply, or want of memory, and whether something was changed before.
+pub fn perform<V: Vault>(
+    sides: &mut Sides,
+    alloc: Global,
+    a: &mut V,
+    b: &mut V,
+    event: &Event,
+) -> Result<Reply, CoreError>
+    requires standing { AllStanding (both V.contents a.old b.old) sides.old }
+    requires served { is_served event.now ≡ true }
+    requires worded { is_worded event.now ≡ true }
+    requires room { sides.old.tickets < 2 ^ 32 - 1 }
+    ensures does { (m : Machine) → Reached m → AllStand (both V.contents a.old b.old) sides.old m
+        → Performs event.now m (both V.contents a.old b.old) sides.old (both V.contents a.new b.new) sides.new result }
+    ensures counts_a { Counts (V.tally a.old) (V.tally a.new) }
+    ensures counts_b { Counts (V.tally b.old) (V.tally b.new) }
+    ensures told { IfOk result (λ reply. FaultRose reply (both V.tally a.old b.old) (both V.tally a.new b.new)) }
+{
+    let tickets = sides.tickets;
+    let reply = match cluster_of(&sides.flights, event) {
+        Cluster::A => on_side(&mut sides.a, alloc, a, &sides.flights, tickets, event)?,
+        Cluster::B => on_side(&mut sides.b, alloc, b, &sides.flights, tickets, event)?,
+        Cluster::C => unreachable!(),
+    };
+    sides.tickets = sides.tickets.saturating_add(accepted(&reply));
+    Ok(reply)
+}

@@ -1,0 +1,71 @@
+// Both clusters in memory.
+ghost use Rattle.std.specs.Prelude.{◌≡◌, IfOk};
+ghost use Rattle.rep_laws.specs.Growing.{accepted};
+ghost use Rattle.pair_core.specs.Sides.{empty_sides};
+ghost use Rattle.pair_core.specs.Served.{source_of, cluster_of};
+
+use cluster_core::{ClusterCore, Sent};
+use queue_events::find_sent;
+use rep_types::{Cluster, Event, Items, Memory, Reply};
+use std::alloc::Global;
+
+/// Both clusters in memory, the flights between them, and how many tickets were given.
+#[derive(Drop)]
+pub struct Sides {
+    pub a: ClusterCore,
+    pub b: ClusterCore,
+    pub flights: Items<Sent>,
+    pub tickets: u32,
+}
+
+impl Sides {
+    /// Nothing in either cluster.
+    pub fn new(alloc: Global) -> Result<Sides, Memory>
+        ensures { IfOk result (λ sides. sides ≡ empty_sides) }
+    {
+        Ok(Sides {
+            a: ClusterCore::new(alloc, Cluster::A)?,
+            b: ClusterCore::new(alloc, Cluster::B)?,
+            flights: Items::new(alloc),
+            tickets: 0,
+        })
+    }
+}
+
+/// How many tickets a reply gives.
+pub fn accepted(reply: &Reply) -> u32
+    ensures { result ≡ accepted reply.now }
+{
+    match reply {
+        Reply::Accepted { .. } => 1,
+        _ => 0,
+    }
+}
+
+// The cluster that a flight was sent from.
+#[tactic(auto, unfolding(rep_model::specs::Keyed::given))]
+fn source_of(flights: &Items<Sent>, flight: u32) -> Cluster
+    ensures { result ≡ source_of flight flights.now }
+{
+    match find_sent(flights, flight) {
+        Some(sent) => sent.cluster,
+        None => Cluster::A,
+    }
+}
+
+/// Where an event is performed.
+pub fn cluster_of(flights: &Items<Sent>, event: &Event) -> Cluster
+    ensures { result ≡ cluster_of flights.now event.now }
+{
+    match event {
+        Event::Server { cluster, .. } => *cluster,
+        Event::Table { cluster, .. } => *cluster,
+        Event::OpenBegin { cluster, .. } => *cluster,
+        Event::Put { cluster, .. } => *cluster,
+        Event::Get { cluster, .. } => *cluster,
+        Event::Show { cluster, .. } => *cluster,
+        Event::Sync { cluster, .. } => *cluster,
+        Event::Confirm { flight } => source_of(flights, *flight),
+        _ => Cluster::A,
+    }
+}
