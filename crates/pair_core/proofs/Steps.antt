@@ -51,7 +51,7 @@ still_covers told c old new counts covers = upto (count c told) (total old.fault
 
 -- ---- the record
 
-pub made : Event → Reply → Both Tally → ℕ → Record
+abbrev pub made : Event → Reply → Both Tally → ℕ → Record
 made e said tallies actor = record { event = e; reply = said; faults_a = total tallies.a.faults; faults_b = total tallies.b.faults; actor = actor }
 
 below : (a b c : ℕ) → a ≤ b → b < c → a < c

@@ -1,7 +1,8 @@
 // A delivered flight is recorded.
-ghost use Rattle.std.specs.Prelude.{◌≡◌, List, Ok, map};
+ghost use Rattle.std.specs.Prelude.{◌≡◌, true, List, Ok, map, IfOk};
 ghost use Rattle.rep_types.specs.declared.event.Event.TheVariants as event;
 ghost use Rattle.rep_vault.specs.Contents.{Contents};
+ghost use Rattle.rep_model.specs.Calm.{is_calm};
 ghost use Rattle.rep_model.specs.State.{of};
 ghost use Rattle.rep_model.specs.Row.{first};
 ghost use Rattle.rep_model.specs.declared.machine.Machine.{Machine};
@@ -53,7 +54,8 @@ fn land(core: &mut ClusterCore, sent: &Sent)
 
 // `confirm`, in what memory tells.
 fn confirm_in(core: &mut ClusterCore, flights: &Items<Sent>, flight: u32) -> Reply
-    ensures { Confirms flight (sent_at flight flights.now) core.old core.new result }
+    ensures does { Confirms flight (sent_at flight flights.now) core.old core.new result }
+    ensures calm { is_calm result ≡ true }
 {
     if let Some(why) = confirm_refusal(core, flights, flight) {
         return Reply::Refused(why);
@@ -74,9 +76,10 @@ pub fn confirm(
     flights: &Items<Sent>,
     flight: u32,
 ) -> Result<Reply, CoreError>
-    ensures { (c : Contents) (m : Machine) → Reached m → Stands core.old.own c core.old (of core.old.own m)
+    ensures does { (c : Contents) (m : Machine) → Reached m → Stands core.old.own c core.old (of core.old.own m)
         → flights.now ≡ map sent_of m.flights → IsFrom core.old.own flight m
         → FliesOr core.old.own (event.Confirm flight) m c core.old flights.now c core.new flights.now result }
+    ensures calm { IfOk result (λ reply. is_calm reply ≡ true) }
 {
     Ok(confirm_in(core, flights, flight))
 }

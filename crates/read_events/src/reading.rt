@@ -1,7 +1,8 @@
-ghost use Rattle.std.specs.Prelude.{◌≡◌, find};
+ghost use Rattle.std.specs.Prelude.{◌≡◌, true, find, IfOk};
 ghost use Rattle.std.specs.Option.{option_copied};
 ghost use Rattle.rep_types.specs.declared.event.Event.TheVariants as event;
 ghost use Rattle.rep_vault.specs.Contents.{Contents};
+ghost use Rattle.rep_model.specs.Calm.{is_calm};
 ghost use Rattle.rep_model.specs.State.{of};
 ghost use Rattle.rep_model.specs.declared.machine.Machine.{Machine};
 ghost use Rattle.cluster_core.specs.Stands.{Stands};
@@ -19,7 +20,8 @@ fn find_cells<'a>(cells: &'a Items<TableCells>, table: &Name) -> Option<&'a Tabl
 }
 
 fn shown(views: Result<Views, Memory>) -> Result<Reply, CoreError>
-    ensures { result ≡ shown views }
+    ensures value { result ≡ shown views }
+    ensures calm { IfOk result (λ reply. is_calm reply ≡ true) }
 {
     match views {
         Ok(cells) => Ok(Reply::Shown { cells }),
@@ -29,8 +31,9 @@ fn shown(views: Result<Views, Memory>) -> Result<Reply, CoreError>
 
 /// What a table shows. It costs the table's columns.
 pub fn show(alloc: Global, core: &ClusterCore, table: &Name) -> Result<Reply, CoreError>
-    ensures { (c : Contents) (m : Machine) → Reached m → Stands core.now.own c core.now (of core.now.own m)
+    ensures does { (c : Contents) (m : Machine) → Reached m → Stands core.now.own c core.now (of core.now.own m)
         → Answers core.now.own (event.Show core.now.own table.now) m c core.now c core.now result }
+    ensures calm { IfOk result (λ reply. is_calm reply ≡ true) }
 {
     match find_cells(&core.index.cells, table) {
         None => Ok(Reply::Refused(Refusal::NoTable)),
@@ -40,8 +43,9 @@ pub fn show(alloc: Global, core: &ClusterCore, table: &Name) -> Result<Reply, Co
 
 /// What a row shows, where its region is On. It costs the row's columns, and the search for them.
 pub fn get(alloc: Global, core: &ClusterCore, table: &Name, row: &Key) -> Result<Reply, CoreError>
-    ensures { (c : Contents) (m : Machine) → Reached m → Stands core.now.own c core.now (of core.now.own m)
+    ensures does { (c : Contents) (m : Machine) → Reached m → Stands core.now.own c core.now (of core.now.own m)
         → Answers core.now.own (event.Get core.now.own table.now row.now) m c core.now c core.now result }
+    ensures calm { IfOk result (λ reply. is_calm reply ≡ true) }
 {
     match find_cells(&core.index.cells, table) {
         None => Ok(Reply::Refused(Refusal::NoTable)),

@@ -8,16 +8,16 @@ use Rattle.rep_model.specs.State.{of}
 use Rattle.read_events.proofs.Shown.{get_refused, get_unplaced, get_answers}
 use Rattle.read_events.proofs.reading.get.Goals as goal
 
-pub returns-in-None : goal.returns-in-None
-returns-in-None c = λ k m reached stands. get_refused c.args.core.now.own c.args.table.now c.args.row.now m k c.args.core.now stands (sym c.in-None.ensures)
+pub returns-in-None-clause-does : goal.returns-in-None-clause-does
+returns-in-None-clause-does c = λ k m reached stands. get_refused c.args.core.now.own c.args.table.now c.args.row.now m k c.args.core.now stands (sym c.in-None.ensures)
 
-pub returns-in-None-seat_of : goal.returns-in-None-seat_of
-returns-in-None-seat_of c = λ k m reached stands.
+pub returns-in-None-seat_of-clause-does : goal.returns-in-None-seat_of-clause-does
+returns-in-None-seat_of-clause-does c = λ k m reached stands.
     get_unplaced c.args.core.now.own c.args.table.now c.args.row.now m k c.args.core.now c.in-Some.kept.now c.located_number.result stands (sym c.in-Some.ensures)
     (c.in-None-seat_of.ensures.state k (of c.args.core.now.own m) stands.regions stands.servers) (c.located_number.ensures (of c.args.core.now.own m) stands.regions)
 
-pub returns-in-Some-seat_of : goal.returns-in-Some-seat_of
-returns-in-Some-seat_of c = λ k m reached stands.
-    subst (λ (r : Result Reply CoreError). Answers c.args.core.now.own (event.Get c.args.core.now.own c.args.table.now c.args.row.now) m k c.args.core.now k c.args.core.now r) (sym c.shown.ensures)
+pub returns-in-Some-seat_of-clause-does : goal.returns-in-Some-seat_of-clause-does
+returns-in-Some-seat_of-clause-does c = λ k m reached stands.
+    subst (λ (r : Result Reply CoreError). Answers c.args.core.now.own (event.Get c.args.core.now.own c.args.table.now c.args.row.now) m k c.args.core.now k c.args.core.now r) (sym c.shown.ensures.value)
     (get_answers c.args.core.now.own c.args.table.now c.args.row.now m k c.args.core.now c.in-Some.kept.now _ c.get.result stands (sym c.in-Some.ensures)
     (seat_is k (of c.args.core.now.own m) c.args.core.now.stations c.args.table.now c.args.row.now _ _ (c.in-Some-seat_of.ensures.state k (of c.args.core.now.own m) stands.regions stands.servers)) c.get.ensures)

@@ -6,10 +6,10 @@ use Rattle.cluster_core.specs.Does.{Answers}
 use Rattle.read_events.proofs.Shown.{show_refused, show_answers}
 use Rattle.read_events.proofs.reading.show.Goals as goal
 
-pub returns-in-None : goal.returns-in-None
-returns-in-None c = λ k m reached stands. show_refused c.args.core.now.own c.args.table.now m k c.args.core.now stands (sym c.in-None.ensures)
+pub returns-in-None-clause-does : goal.returns-in-None-clause-does
+returns-in-None-clause-does c = λ k m reached stands. show_refused c.args.core.now.own c.args.table.now m k c.args.core.now stands (sym c.in-None.ensures)
 
-pub returns-in-Some : goal.returns-in-Some
-returns-in-Some c = λ k m reached stands.
-    subst (λ (r : Result Reply CoreError). Answers c.args.core.now.own (event.Show c.args.core.now.own c.args.table.now) m k c.args.core.now k c.args.core.now r) (sym c.shown.ensures)
+pub returns-in-Some-clause-does : goal.returns-in-Some-clause-does
+returns-in-Some-clause-does c = λ k m reached stands.
+    subst (λ (r : Result Reply CoreError). Answers c.args.core.now.own (event.Show c.args.core.now.own c.args.table.now) m k c.args.core.now k c.args.core.now r) (sym c.shown.ensures.value)
     (show_answers c.args.core.now.own c.args.table.now m k c.args.core.now c.in-Some.kept.now c.scan.result stands (sym c.in-Some.ensures) c.scan.ensures)
