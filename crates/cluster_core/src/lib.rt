@@ -16,7 +16,9 @@ mod records;
 pub use accepting::{CurrentLog, accept, current_log, log_fits, mark};
 pub use committing::{CommitError, commit};
 pub use laws::a_refusal_leaves_all;
-pub use lines::{added_peer, find_line, find_shelf, is_live, set_landed, set_out, shelf_length};
+pub use lines::{
+    added_peer, find_line, find_shelf, find_station, is_live, set_landed, set_out, shelf_length,
+};
 pub use lookup::{
     Seat, families, find_peer, line_at, located, located_number, on_at, region, seat_of,
     station_at, trace,

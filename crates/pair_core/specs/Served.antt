@@ -4,9 +4,17 @@ use Rattle.rep_types.specs.declared.ids.Cluster.{Cluster}
 use Rattle.rep_types.specs.declared.ids.Cluster.TheVariants.{A, B, C}
 use Rattle.rep_types.specs.declared.event.Event.{Event}
 use Rattle.rep_types.specs.declared.event.Event.TheVariants as event
+use Rattle.rep_types.specs.declared.state.Kind.{Kind}
+use Rattle.rep_types.specs.declared.state.Kind.TheVariants.{Plain, Serial, Synchronous}
 use Rattle.rep_model.specs.Keyed.{given}
 use Rattle.cluster_core.specs.declared.parts.Sent.{Sent}
 use Rattle.queue_events.specs.Flights.{sent_at}
+
+-- of peers the plain ones
+abbrev pub is_plain : Kind → Bool
+is_plain Plain = true
+is_plain Serial = false
+is_plain Synchronous = false
 
 abbrev pub is_served : Event → Bool
 is_served (event.Server c s) = true
@@ -16,6 +24,7 @@ is_served (event.Put c t k cells) = true
 is_served (event.Get c t k) = true
 is_served (event.Show c t) = true
 is_served (event.Sync c s) = true
+is_served (event.Peer c p k ts) = is_plain k
 is_served (event.Confirm f) = true
 is_served _ = false
 
@@ -32,5 +41,6 @@ cluster_of flights (event.Put c t k cells) = c
 cluster_of flights (event.Get c t k) = c
 cluster_of flights (event.Show c t) = c
 cluster_of flights (event.Sync c s) = c
+cluster_of flights (event.Peer c p k ts) = c
 cluster_of flights (event.Confirm f) = source_of f flights
 cluster_of flights _ = A

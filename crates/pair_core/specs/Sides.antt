@@ -6,6 +6,15 @@ use Rattle.rep_vault.specs.Contents.{Contents}
 use Rattle.rep_vault.specs.Tallies.{Tally, total}
 use Rattle.rep_model.specs.Runs.{Counts, count}
 use Rattle.rep_model.specs.declared.machine.Machine.{Machine}
+use Rattle.rep_model.specs.declared.machine.Commit.{Commit}
+use Rattle.rep_model.specs.State as state
+use Rattle.region_meta.specs.Regions.{Map}
+use Rattle.wal_entry.specs.Framed.{HasFrame}
+use Rattle.std.specs.List.{AllByRecursion}
+use Rattle.cluster_core.specs.declared.parts.ClusterCore.{ClusterCore}
+use Rattle.cluster_core.specs.declared.parts.Sent.{Sent}
+use Rattle.cluster_core.specs.Entries.{entry_of}
+use Rattle.cluster_core.specs.Memory.{map_of}
 use Rattle.cluster_core.specs.Stands.{Stands, empty_core}
 use Rattle.cluster_core.specs.Does.{Reached, sent_of}
 use Rattle.pair_core.specs.declared.sides.Sides.{Sides}
@@ -26,6 +35,15 @@ pub record AllStand (stores : Both Contents) (sides : Sides) (m : Machine) : Typ
   pub b : Stands B stores.b sides.b m.b
   pub flights : sides.flights ≡ map sent_of m.flights
   pub tickets : sides.tickets ≡ length m.tickets
+
+-- what a cluster knows when an event comes to it: its own side, the regions of the other, whose commits have frames, the flights and how many tickets were given
+pub record IsHere (own : Cluster) (c : Contents) (core : ClusterCore) (beside : Map) (flights : List Sent) (tickets : ℕ) (m : Machine) : Type 0 where
+  pub reached : Reached m
+  pub stands : Stands own c core (state.of own m)
+  pub beside_is : beside ≡ map_of (state.of (state.other own) m)
+  pub framed : AllByRecursion (λ (x : Commit). HasFrame (entry_of x)) (state.of (state.other own) m).commits
+  pub flights_are : flights ≡ map sent_of m.flights
+  pub tickets_are : tickets ≡ length m.tickets
 
 -- they do for a state that some legal run leads to
 abbrev pub Standing : Both Contents → Sides → Type 0

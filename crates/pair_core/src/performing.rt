@@ -1,23 +1,29 @@
 // One event, performed by its cluster.
-ghost use Rattle.std.specs.Prelude.{◌≡◌, ◌+◌, ◌-◌, ◌^◌, ◌<◌, IfOk, length, map, true};
+ghost use Rattle.std.specs.Prelude.{◌≡◌, ◌+◌, ◌-◌, ◌^◌, ◌<◌, IfOk, length, true};
 ghost use Rattle.rep_types.specs.declared.event.Event.TheVariants as event;
-ghost use Rattle.rep_model.specs.State.{of};
+ghost use Rattle.rep_types.specs.declared.state.Kind.TheVariants as kind;
+ghost use Rattle.rep_model.specs.State.{of, other};
 ghost use Rattle.rep_model.specs.Words.{is_worded};
 ghost use Rattle.rep_model.specs.declared.machine.Machine.{Machine};
+ghost use Rattle.cluster_core.specs.Memory.{map_of};
 ghost use Rattle.cluster_core.specs.Stands.{Stands};
-ghost use Rattle.cluster_core.specs.Does.{Reached, Standing, sent_of, Counts, FaultTold, Answers, FliesOr};
+ghost use Rattle.cluster_core.specs.Does.{Reached, Standing, Counts, FaultTold, Answers, FliesOr};
 ghost use Rattle.pair_core.specs.Served.{is_served, cluster_of};
-ghost use Rattle.pair_core.specs.Sides.{Standing as AllStanding, AllStand};
+ghost use Rattle.pair_core.specs.Sides.{Standing as AllStanding, AllStand, IsHere};
 ghost use Rattle.pair_core.specs.Pair.{both};
 ghost use Rattle.pair_core.specs.Performs.{Performs, FaultRose};
 
 use crate::sides::{Sides, accepted, cluster_of};
 use cluster_core::{ClusterCore, CoreError, Sent};
 use log_events::sync;
+use peer_events::peer;
 use queue_events::confirm;
 use read_events::{get, show};
 use region_events::{open_begin, table};
-use rep_types::{Cells, Cluster, Duplicate, Event, Families, Items, Key, Name, Reply};
+use region_meta::RegionMap;
+use rep_types::{
+    Cells, Cluster, Duplicate, Event, Families, Items, Key, Kind, Name, Names, PeerId, Reply,
+};
 use rep_vault::Vault;
 use server_events::server;
 use std::alloc::Global;
@@ -69,22 +75,44 @@ fn put_cells<V: Vault>(
     put(core, alloc, own, table, row, cells, ticket)
 }
 
-// One event of this cluster.
+// Adds a plain peer of copies of these tables.
+fn add_peer<V: Vault>(
+    core: &mut ClusterCore,
+    alloc: Global,
+    own: &mut V,
+    beside: &RegionMap,
+    number: PeerId,
+    tables: &Names,
+) -> Result<Reply, CoreError>
+    requires { Standing core.old.own (V.contents own.old) core.old }
+    ensures does { (m : Machine) → Reached m → Stands core.old.own (V.contents own.old) core.old (of core.old.own m) → beside.now ≡ map_of (of (other core.old.own) m)
+        → Answers core.old.own (event.Peer core.old.own number kind.Plain tables.now) m (V.contents own.old) core.old (V.contents own.new) core.new result }
+    ensures counts { Counts (V.tally own.old) (V.tally own.new) }
+    ensures told { IfOk result (λ reply. FaultTold core.old.own reply (V.tally own.old) (V.tally own.new)) }
+{
+    let Ok(tables) = tables.copy(alloc) else {
+        return Err(CoreError::Memory { changed: false });
+    };
+    peer(core, alloc, own, beside, number, tables)
+}
+
+// One event of this cluster; `beside` are the regions of the other one.
 fn on_side<V: Vault>(
     core: &mut ClusterCore,
     alloc: Global,
     own: &mut V,
-    flights: &Items<Sent>,
+    beside: &RegionMap,
+    flights: &mut Items<Sent>,
     tickets: u32,
     event: &Event,
 ) -> Result<Reply, CoreError>
-    requires standing { Standing core.old.own (V.contents own.old) core.old }
+    requires standing { (m : Machine) × IsHere core.old.own (V.contents own.old) core.old beside.now flights.old tickets m }
     requires served { is_served event.now ≡ true }
     requires worded { is_worded event.now ≡ true }
-    requires here { cluster_of flights.now event.now ≡ core.old.own }
+    requires here { cluster_of flights.old event.now ≡ core.old.own }
     requires room { tickets < 2 ^ 32 - 1 }
-    ensures does { (m : Machine) → Reached m → Stands core.old.own (V.contents own.old) core.old (of core.old.own m) → flights.now ≡ map sent_of m.flights → tickets ≡ length m.tickets
-        → FliesOr core.old.own event.now m (V.contents own.old) core.old flights.now (V.contents own.new) core.new flights.now result }
+    ensures does { (m : Machine) → IsHere core.old.own (V.contents own.old) core.old beside.now flights.old tickets m
+        → FliesOr core.old.own event.now m (V.contents own.old) core.old flights.old (V.contents own.new) core.new flights.new result }
     ensures counts { Counts (V.tally own.old) (V.tally own.new) }
     ensures told { IfOk result (λ reply. FaultTold core.old.own reply (V.tally own.old) (V.tally own.new)) }
 {
@@ -100,6 +128,12 @@ fn on_side<V: Vault>(
         Event::Get { table, row, .. } => get(alloc, core, table, row),
         Event::Show { table, .. } => show(alloc, core, table),
         Event::Sync { server, .. } => sync(core, alloc, own, *server),
+        Event::Peer {
+            peer,
+            kind: Kind::Plain,
+            tables,
+            ..
+        } => add_peer(core, alloc, own, beside, *peer, tables),
         Event::Confirm { flight } => confirm(core, flights, *flight),
         _ => unreachable!(),
     }
@@ -123,12 +157,17 @@ pub fn perform<V: Vault>(
     ensures counts_b { Counts (V.tally b.old) (V.tally b.new) }
     ensures told { IfOk result (λ reply. FaultRose reply (both V.tally a.old b.old) (both V.tally a.new b.new)) }
 {
-    let tickets = sides.tickets;
-    let reply = match cluster_of(&sides.flights, event) {
-        Cluster::A => on_side(&mut sides.a, alloc, a, &sides.flights, tickets, event)?,
-        Cluster::B => on_side(&mut sides.b, alloc, b, &sides.flights, tickets, event)?,
+    let Sides {
+        a: side_a,
+        b: side_b,
+        flights,
+        tickets,
+    } = sides;
+    let reply = match cluster_of(flights, event) {
+        Cluster::A => on_side(side_a, alloc, a, &side_b.map, flights, *tickets, event)?,
+        Cluster::B => on_side(side_b, alloc, b, &side_a.map, flights, *tickets, event)?,
         Cluster::C => unreachable!(),
     };
-    sides.tickets = sides.tickets.saturating_add(accepted(&reply));
+    *tickets = tickets.saturating_add(accepted(&reply));
     Ok(reply)
 }

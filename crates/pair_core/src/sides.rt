@@ -65,6 +65,7 @@ pub fn cluster_of(flights: &Items<Sent>, event: &Event) -> Cluster
         Event::Get { cluster, .. } => *cluster,
         Event::Show { cluster, .. } => *cluster,
         Event::Sync { cluster, .. } => *cluster,
+        Event::Peer { cluster, .. } => *cluster,
         Event::Confirm { flight } => source_of(flights, *flight),
         _ => Cluster::A,
     }
