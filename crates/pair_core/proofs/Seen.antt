@@ -1,5 +1,8 @@
 -- One cluster's event, seen from both.
-use Rattle.std.proofs.Common.{ℕ, ◌+◌, ◌≡◌, false, true, Bool, List, map, length, refl, sym, ap, ◌∙◌, subst}
+use Rattle.std.proofs.Common.{ℕ, ◌+◌, ◌≡◌, false, true, Option, Some, None, List, map, length, refl, sym, ap, ◌∙◌, subst}
+use Rattle.std.proofs.lemmas.Bool.{false≢true}
+use Rattle.std.specs.Prelude.{IfSome}
+use Rattle.std.specs.Option.{option_map}
 use Rattle.rep_types.specs.declared.ids.Cluster.{Cluster}
 use Rattle.rep_types.specs.declared.ids.Cluster.TheVariants.{A, B, C}
 use Rattle.rep_types.specs.declared.event.Event.{Event}
@@ -11,16 +14,23 @@ use Rattle.rep_types.specs.declared.reply.Reply.TheVariants as reply
 use Rattle.rep_vault.specs.Contents.{Contents}
 use Rattle.rep_vault.specs.Tallies.{Tally}
 use Rattle.rep_model.specs.Row.{Row}
+use Rattle.rep_model.specs.Calm.{is_calm}
+use Rattle.rep_model.specs.Keyed.{given}
+use Rattle.rep_model.specs.State.{flight_of}
 use Rattle.rep_model.specs.Rows.{row}
 use Rattle.rep_model.specs.declared.machine.Machine.{Machine}
 use Rattle.rep_model.specs.declared.machine.Side.{Side}
+use Rattle.rep_model.specs.declared.machine.Flight.{Flight}
 use Rattle.rep_laws.specs.Growing.{accepted, Grows}
 use Rattle.rep_laws.proofs.RowLengths.{row_grows}
 use Rattle.cluster_core.specs.declared.parts.Sent.{Sent}
 use Rattle.cluster_core.specs.declared.parts.ClusterCore.{ClusterCore}
 use Rattle.cluster_core.specs.Stands.{Stands}
-use Rattle.cluster_core.specs.Does.{Flies, Does, IsTold, CauseTold, FaultTold, sent_of}
+use Rattle.cluster_core.specs.Does.{Reached, Flies, Does, IsTold, CauseTold, FaultTold, sent_of}
+use Rattle.queue_events.specs.Flights.{IsFrom}
+use Rattle.queue_events.proofs.Confirmed.{sent_is}
 use Rattle.pair_core.specs.declared.sides.Sides.{Sides}
+use Rattle.pair_core.specs.Served.{source_of}
 use Rattle.pair_core.specs.Sides.{Both, of, AllStand}
 use Rattle.pair_core.specs.Performs.{Done, Rose, FaultRose}
 
@@ -75,3 +85,20 @@ fault_rose own (reply.Stopped index acks why) old new told = by_cause why told
     by_cause (cause.StoreFault store call n) t = told_rose own store call n old new t
     by_cause _ t = tt
 fault_rose own _ old new told = tt
+
+calm_told : (own : Cluster) (said : Reply) (old new : Tally) → is_calm said ≡ true → FaultTold own said old new
+calm_told own (reply.StoreFault store call n) old new e = absurd (false≢true e)
+calm_told own (reply.Stopped index acks (cause.StoreFault store call n)) old new e = absurd (false≢true e)
+calm_told own (reply.Stopped index acks _) old new e = tt
+calm_told own _ old new e = tt
+
+-- ---- flights
+
+from_here : (o : Option Flight) (own : Cluster) → given (option_map sent_of o) A (λ (f : Sent). f.cluster) ≡ own → IfSome o (λ (f : Flight). f.cluster ≡ own)
+unfolding given
+from_here None own e = tt
+from_here (Some f) own e = e
+
+-- a flight whose event is performed here was sent from here
+pub source_here : (m : Machine) → Reached m → (flights : List Sent) → flights ≡ map sent_of m.flights → (k : ℕ) (own : Cluster) → source_of k flights ≡ own → IsFrom own k m
+source_here m reached flights are k own e = from_here (flight_of k m) own (ap (λ (o : Option Sent). given o A (λ (f : Sent). f.cluster)) (sym (sent_is m reached k)) ∙ (ap (λ (fs : List Sent). source_of k fs) (sym are) ∙ e))

@@ -1,5 +1,5 @@
 -- A pair goes on by one step.
-use Rattle.std.proofs.Common.{ℕ, ◌+◌, ◌≤◌, ◌<◌, ◌≡◌, true, false, Bool, List, [], ◌∷◌, ◌++◌, length, refl, sym, ap, ◌∙◌, subst, arith, length-append}
+use Rattle.std.proofs.Common.{ℕ, ◌+◌, ◌≤◌, ◌<◌, ◌≡◌, true, false, Bool, List, [], ◌∷◌, ◌++◌, length, refl, sym, ap, ◌∙◌, subst, arith, length-append, Err}
 use Rattle.std.proofs.lemmas.Bool.{true≢false}
 use Rattle.rep_types.specs.declared.ids.Cluster.{Cluster}
 use Rattle.rep_types.specs.declared.ids.Cluster.TheVariants.{A, B, C}
@@ -21,10 +21,12 @@ use Rattle.rep_model.specs.Words.{is_worded}
 use Rattle.rep_model.proofs.Runs.{legal-push, state-push, faults-push}
 use Rattle.rep_laws.specs.Growing.{accepted, Grows}
 use Rattle.rep_laws.proofs.RowLengths.{row_grows}
+use Rattle.cluster_core.specs.declared.parts.CoreError.{CoreError}
+use Rattle.cluster_core.specs.declared.parts.CoreError.TheVariants as failed
 use Rattle.cluster_core.specs.Does.{Counts as Counted, Reached}
 use Rattle.pair_core.specs.declared.sides.Sides.{Sides}
-use Rattle.pair_core.specs.Sides.{Both, of, AllStand, Standing, Covers}
-use Rattle.pair_core.specs.Performs.{Done, Rose, FaultRose}
+use Rattle.pair_core.specs.Sides.{Both, of, AllStand, Covers}
+use Rattle.pair_core.specs.Performs.{Done, Performs, changed_of, Rose, FaultRose}
 use Rattle.pair_core.specs.Pair.{IsPair, both}
 
 -- ---- counts
@@ -137,3 +139,7 @@ pair_stops contents tally journal false sides left a b c d pair kept counts_a co
   covers_b = still_covers (faults_of journal) B (tally b) (tally d) counts_b pair.covers_b;
   few = pair.few;
 }
+
+pub pair_fails : {V : Type 0} (contents : V → Contents) (tally : V → Tally) (journal : List Record) (why : CoreError) (e : Event) (sides left : Sides) (a b c d : V) → IsPair contents tally journal false sides a b
+    → Performs e (state_of journal) (both contents a b) sides (both contents c d) left (Err why) → Counted (tally a) (tally c) → Counted (tally b) (tally d) → IsPair contents tally journal (changed_of why) left c d
+pair_fails contents tally journal (failed.Memory changed) e sides left a b c d pair kept counts_a counts_b = pair_stops contents tally journal changed sides left a b c d pair kept counts_a counts_b

@@ -1,8 +1,16 @@
 -- Where memory and a store stand for a state, the store holds what it is to hold.
-use Rattle.std.proofs.Common.{ℕ, ◌≡◌, List, find, Option, Some, None, refl}
+use Rattle.std.proofs.Common.{ℕ, ◌≡◌, Bool, false, List, find, Option, Some, None, sym, subst}
+use Rattle.rep_types.specs.declared.ids.Cluster.TheVariants.{A, B}
+use Rattle.rep_types.specs.declared.record.Record.{Record}
+use Rattle.rep_vault.specs.Tallies.{Tally}
+use Rattle.rep_model.specs.Keyed.{if_some}
+use Rattle.rep_model.specs.Runs.{state_of}
+use Rattle.cluster_core.specs.Lines.{lives}
+use Rattle.cluster_core.proofs.QueueLookups.{lives_is}
+use Rattle.pair_core.specs.Pair.{PairValue, IsPair, both}
 use Rattle.rep_types.specs.declared.ids.Cluster.{Cluster}
 use Rattle.rep_vault.specs.Contents.{Contents}
-use Rattle.rep_model.specs.State.{is_server}
+use Rattle.rep_model.specs.State.{is_server, server_of}
 use Rattle.rep_model.specs.declared.machine.Machine.{Machine}
 use Rattle.rep_model.specs.declared.machine.Side.{Side}
 use Rattle.rep_model.specs.declared.machine.Server.{Server}
@@ -28,3 +36,22 @@ holds own c core side stands = record {
 
 pub all_stored : (stores : Both Contents) (sides : Sides) (m : Machine) → AllStand stores sides m → Stored stores m
 all_stored stores sides m all = record { a = holds _ stores.a sides.a m.a all.a; b = holds _ stores.b sides.b m.b all.b }
+
+-- ---- what a pair says of its state
+
+pub stored_now : {V : Type 0} (contents : V → Contents) (tally : V → Tally) (p : PairValue V) (journal : List Record) (spent : Bool) (sides : Sides) (a b : V) → p ≡ record { journal = journal; spent = spent; a = a; b = b }
+    → IsPair contents tally journal spent sides a b → p.spent ≡ false → Stored (both contents p.a p.b) (state_of p.journal)
+stored_now contents tally p journal spent sides a b is pair =
+    subst (λ (q : PairValue _). q.spent ≡ false → Stored (both contents q.a q.b) (state_of q.journal)) (sym is) (λ e. all_stored (both contents a b) sides (state_of journal) (pair.stand e))
+
+pub live_in_a : {V : Type 0} (contents : V → Contents) (tally : V → Tally) (p : PairValue V) (journal : List Record) (spent : Bool) (sides : Sides) (a b : V) (s : ℕ) → p ≡ record { journal = journal; spent = spent; a = a; b = b }
+    → IsPair contents tally journal spent sides a b → p.spent ≡ false → lives s sides.a.stations ≡ if_some (server_of A s (state_of p.journal)) (λ (srv : Server). srv.live)
+live_in_a contents tally p journal spent sides a b s is pair =
+    subst (λ (q : PairValue _). q.spent ≡ false → lives s sides.a.stations ≡ if_some (server_of A s (state_of q.journal)) (λ (srv : Server). srv.live)) (sym is)
+    (λ e. lives_is (contents a) (state_of journal).a s (find (is_station s) sides.a.stations) (find (is_server s) (state_of journal).a.servers) ((pair.stand e).a.servers s))
+
+pub live_in_b : {V : Type 0} (contents : V → Contents) (tally : V → Tally) (p : PairValue V) (journal : List Record) (spent : Bool) (sides : Sides) (a b : V) (s : ℕ) → p ≡ record { journal = journal; spent = spent; a = a; b = b }
+    → IsPair contents tally journal spent sides a b → p.spent ≡ false → lives s sides.b.stations ≡ if_some (server_of B s (state_of p.journal)) (λ (srv : Server). srv.live)
+live_in_b contents tally p journal spent sides a b s is pair =
+    subst (λ (q : PairValue _). q.spent ≡ false → lives s sides.b.stations ≡ if_some (server_of B s (state_of q.journal)) (λ (srv : Server). srv.live)) (sym is)
+    (λ e. lives_is (contents b) (state_of journal).b s (find (is_station s) sides.b.stations) (find (is_server s) (state_of journal).b.servers) ((pair.stand e).b.servers s))

@@ -1,5 +1,5 @@
 -- What an event does to both clusters.
-use Rattle.std.specs.Prelude.{ℕ, ◌<◌, ◌≤◌, ◌≡◌, false, Result, Ok, Err}
+use Rattle.std.specs.Prelude.{ℕ, ◌<◌, ◌≤◌, ◌≡◌, Bool, false, Result, Ok, Err}
 use Rattle.rep_types.specs.declared.ids.Cluster.{Cluster}
 use Rattle.rep_types.specs.declared.state.Call.{Call}
 use Rattle.rep_types.specs.declared.event.Event.{Event}
@@ -27,6 +27,10 @@ pub record Done (r : Row) (stores : Both Contents) (sides : Sides) (reply : Repl
 abbrev pub Performs : Event → Machine → Both Contents → Sides → Both Contents → Sides → Result Reply CoreError → Type 0
 Performs e m old sides new sides' (Ok reply) = Done (row e reply m) new sides' reply
 Performs e m old sides new sides' (Err (failed.Memory changed)) = changed ≡ false → (sides' ≡ sides) × (new ≡ old)
+
+-- whether memory ran out behind a change
+abbrev pub changed_of : CoreError → Bool
+changed_of (failed.Memory changed) = changed
 
 -- a failed call of a store was counted there: the told number is the sum over all kinds, which rose, as did the kind's
 pub record Rose (old new : Tally) (call : Call) (n : ℕ) : Type 0 where

@@ -8,7 +8,7 @@ ghost use Rattle.rep_model.specs.Words.{is_paired, is_worded};
 ghost use Rattle.rep_model.specs.Runs.{IsLegal, state_of};
 ghost use Rattle.cluster_core.specs.Does.{Counts};
 ghost use Rattle.pair_core.specs.Pair.{both, IsSame, IsPlanned};
-ghost use Rattle.pair_core.specs.Performs.{FaultRose};
+ghost use Rattle.pair_core.specs.Performs.{changed_of, FaultRose};
 ghost use Rattle.pair_core.specs.Served.{is_served};
 ghost use Rattle.pair_core.specs.Stored.{Stored};
 
@@ -32,6 +32,15 @@ pub enum StepError {
     Full,
     #[error("out of memory")]
     Memory,
+}
+
+// Whether memory ran out behind a change.
+fn is_changed(error: CoreError) -> bool
+    ensures { result ≡ changed_of error }
+{
+    match error {
+        CoreError::Memory { changed } => changed,
+    }
 }
 
 /// The stores of a pair that couldn't be made for want of memory, as they were.
@@ -127,8 +136,8 @@ impl<V: Vault> Pair<V> {
         self.spent = true;
         let reply = match perform(&mut self.sides, alloc, &mut self.a, &mut self.b, &event) {
             Ok(reply) => reply,
-            Err(CoreError::Memory { changed }) => {
-                self.spent = changed;
+            Err(error) => {
+                self.spent = is_changed(error);
                 return Err(StepError::Memory);
             }
         };

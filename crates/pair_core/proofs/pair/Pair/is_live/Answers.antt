@@ -1,21 +1,15 @@
-use Rattle.std.proofs.Common.{rules, ◌≡◌, ◌-◌, ◌^◌, ◌<◌, ◌≤◌, ◌++◌, ◌↔◌, [], ◌∷◌, false, true, length, IfSome, IfOk, OnOk, OnErr, MatchResult, IsErrOf, ℕ, ◌+◌, ◌*◌, ◌/◌, ◌%◌, Bool, nat_eq, nat_lt, List, slice_index_or, slice_set, bit_and, bit_or, Fits, w8, w32, w64, Bor, MutBor}
-use Rattle.rep_vault.specs.Contents.{new_contents}
-use Rattle.rep_vault.specs.Tallies.{total}
+use Rattle.std.proofs.Common.{◌∙◌, sym, ap, subst, ◌≡◌, false}
+use Rattle.rep_types.specs.declared.ids.Cluster.{Cluster}
 use Rattle.rep_model.specs.Keyed.{if_some}
 use Rattle.rep_model.specs.State.{server_of}
-use Rattle.rep_model.specs.Words.{is_paired, is_worded}
-use Rattle.rep_model.specs.Runs.{IsLegal, state_of}
-use Rattle.cluster_core.specs.Does.{Counts}
-use Rattle.pair_core.specs.Pair.{both, IsSame, IsPlanned}
-use Rattle.pair_core.specs.Performs.{FaultRose}
-use Rattle.pair_core.specs.Served.{is_served}
-use Rattle.pair_core.specs.Stored.{Stored}
+use Rattle.rep_model.specs.Runs.{state_of}
+use Rattle.pair_core.proofs.Storing.{live_in_a, live_in_b}
 use Rattle.pair_core.proofs.pair.Pair.is_live.Goals as goal
 
--- src/pair.rt:153:5
 pub returns-in-A : goal.returns-in-A
-returns-in-A g c = ?
+returns-in-A g c = λ e. rw c.in-A.is
+    (c.is_live.ensures ∙ live_in_a g.V.Vault.contents g.V.Vault.tally c.args.self.now c.self.inside.journal.items c.self.inside.spent c.self.inside.sides c.self.inside.a c.self.inside.b c.args.server c.self.view_is c.self.invariant e)
 
--- src/pair.rt:153:5
 pub returns-in-B : goal.returns-in-B
-returns-in-B g c = ?
+returns-in-B g c = λ e. rw c.in-B.is
+    (c.is_live-in-B.ensures ∙ live_in_b g.V.Vault.contents g.V.Vault.tally c.args.self.now c.self.inside.journal.items c.self.inside.spent c.self.inside.sides c.self.inside.a c.self.inside.b c.args.server c.self.view_is c.self.invariant e)

@@ -1,17 +1,5 @@
-use Rattle.std.proofs.Common.{rules, ◌≡◌, ◌-◌, ◌^◌, ◌<◌, ◌≤◌, ◌++◌, ◌↔◌, [], ◌∷◌, false, true, length, IfSome, IfOk, OnOk, OnErr, MatchResult, IsErrOf, ℕ, ◌+◌, ◌*◌, ◌/◌, ◌%◌, Bool, nat_eq, nat_lt, List, slice_index_or, slice_set, bit_and, bit_or, Fits, w8, w32, w64, Bor, MutBor}
-use Rattle.rep_vault.specs.Contents.{new_contents}
-use Rattle.rep_vault.specs.Tallies.{total}
-use Rattle.rep_model.specs.Keyed.{if_some}
-use Rattle.rep_model.specs.State.{server_of}
-use Rattle.rep_model.specs.Words.{is_paired, is_worded}
-use Rattle.rep_model.specs.Runs.{IsLegal, state_of}
-use Rattle.cluster_core.specs.Does.{Counts}
-use Rattle.pair_core.specs.Pair.{both, IsSame, IsPlanned}
-use Rattle.pair_core.specs.Performs.{FaultRose}
-use Rattle.pair_core.specs.Served.{is_served}
-use Rattle.pair_core.specs.Stored.{Stored}
+use Rattle.pair_core.proofs.Beginning.{pair_begins}
 use Rattle.pair_core.proofs.pair.Pair.new.Goals as goal
 
--- src/pair.rt:81:9
 pub invariant_of-result : goal.invariant_of-result
-invariant_of-result g c = ?
+invariant_of-result g c = rw (c.in-Ok.ensures, c.new-2.ensures.items) (pair_begins g.V.Vault.contents g.V.Vault.tally c.args.a c.args.b c.requires.a_is_new c.requires.b_is_new)

@@ -1,21 +1,18 @@
-use Rattle.std.proofs.Common.{rules, ◌≡◌, ◌-◌, ◌^◌, ◌<◌, ◌≤◌, ◌++◌, ◌↔◌, [], ◌∷◌, false, true, length, IfSome, IfOk, OnOk, OnErr, MatchResult, IsErrOf, ℕ, ◌+◌, ◌*◌, ◌/◌, ◌%◌, Bool, nat_eq, nat_lt, List, slice_index_or, slice_set, bit_and, bit_or, Fits, w8, w32, w64, Bor, MutBor}
-use Rattle.rep_vault.specs.Contents.{new_contents}
-use Rattle.rep_vault.specs.Tallies.{total}
-use Rattle.rep_model.specs.Keyed.{if_some}
-use Rattle.rep_model.specs.State.{server_of}
-use Rattle.rep_model.specs.Words.{is_paired, is_worded}
-use Rattle.rep_model.specs.Runs.{IsLegal, state_of}
-use Rattle.cluster_core.specs.Does.{Counts}
-use Rattle.pair_core.specs.Pair.{both, IsSame, IsPlanned}
-use Rattle.pair_core.specs.Performs.{FaultRose}
-use Rattle.pair_core.specs.Served.{is_served}
-use Rattle.pair_core.specs.Stored.{Stored}
+use Rattle.std.proofs.Common.{Bool, refl, subst}
+use Rattle.rep_model.specs.Runs.{state_of}
+use Rattle.pair_core.specs.Pair.{IsPair}
+use Rattle.pair_core.proofs.Steps.{pair_goes_on, pair_fails, reached_now}
 use Rattle.pair_core.proofs.pair.Pair.step.Goals as goal
 
--- src/pair.rt:132:17
-pub invariant_of-self-in-Err-Memory : goal.invariant_of-self-in-Err-Memory
-invariant_of-self-in-Err-Memory g c = ?
+pub invariant_of-self-in-Err : goal.invariant_of-self-in-Err
+invariant_of-self-in-Err g c =
+    let pair = subst (λ (s : Bool). IsPair g.V.Vault.contents g.V.Vault.tally c.self.inside.journal.items s c.self.inside.sides c.self.inside.a c.self.inside.b) c.if-self.false c.self.invariant in
+    rw (c.reserve.ensures.items, c.is_changed.ensures) (pair_fails g.V.Vault.contents g.V.Vault.tally c.self.inside.journal.items c.in-Err.error c.args.event c.self.inside.sides c.perform.new.sides c.self.inside.a c.self.inside.b c.perform.new.a c.perform.new.b pair
+    (c.in-Err.ensures.does (state_of c.self.inside.journal.items) (reached_now c.self.inside.journal.items pair.legal) (pair.stand refl)) c.in-Err.ensures.counts_a c.in-Err.ensures.counts_b)
 
--- src/pair.rt:101:5
 pub invariant_of-self-2 : goal.invariant_of-self-2
-invariant_of-self-2 g c = ?
+invariant_of-self-2 g c =
+    let pair = subst (λ (s : Bool). IsPair g.V.Vault.contents g.V.Vault.tally c.self.inside.journal.items s c.self.inside.sides c.self.inside.a c.self.inside.b) c.if-self.false c.self.invariant in
+    rw (c.in-Ok-push.ensures.items, c.reserve.ensures.items, c.in-Ok-copy.ensures, c.faults.ensures, c.faults-2.ensures)
+    (pair_goes_on g.V.Vault.contents g.V.Vault.tally c.self.inside.journal.items c.self.inside.sides c.perform.new.sides c.self.inside.a c.self.inside.b c.perform.new.a c.perform.new.b c.args.event c.in-Ok-perform.reply c.args.actor pair c.requires.worded
+    (c.in-Ok-perform.ensures.does (state_of c.self.inside.journal.items) (reached_now c.self.inside.journal.items pair.legal) (pair.stand refl)) c.in-Ok-perform.ensures.counts_a c.in-Ok-perform.ensures.counts_b c.in-Ok-perform.ensures.told)
