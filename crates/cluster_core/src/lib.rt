@@ -3,6 +3,7 @@
 
 mod accepting;
 mod committing;
+mod entering;
 mod index;
 mod laws;
 mod lines;
@@ -15,6 +16,7 @@ mod records;
 
 pub use accepting::{CurrentLog, accept, current_log, log_fits, mark};
 pub use committing::{CommitError, commit};
+pub use entering::{EntryError, commit_entry};
 pub use laws::a_refusal_leaves_all;
 pub use lines::{added_peer, find_line, find_shelf, is_live, set_landed, set_out, shelf_length};
 pub use lookup::{
