@@ -16,7 +16,7 @@ use Rattle.rep_types.specs.declared.refusal.Refusal.{Refusal}
 use Rattle.rep_types.specs.declared.refusal.Refusal.TheVariants as refusal
 use Rattle.rep_types.specs.declared.reply.Reply.TheVariants as reply
 use Rattle.rep_vault.specs.Contents.{Contents}
-use Rattle.wal_entry.specs.Framed.{IsFramed, HasFrame}
+use Rattle.wal_entry.specs.Framed.{HasFrame}
 use Rattle.rep_vault.specs.Tallies.{Tally}
 use Rattle.wal_roll.specs.Blamed.{IsFault}
 use Rattle.wal_roll.specs.Log.{LogValue}
@@ -178,9 +178,6 @@ module _ (own : Cluster) (old : Contents) (core : ClusterCore) (m : Machine) (r 
       typed = record { region_least = is.id.least; region_most = is.id.most; seq = is.id.fits; kind = tt; origin = tt };
       framed = record { seq = some_seq _ _ seq_is; marks_least = mark_least own; marks_most = mark_most own; origin_seq = tt; kind = refl };
     })
-
-    pub marker_framed : IsFramed e
-    marker_framed = framed.framed
 
     pub may_enter : MayEnter (of own m) k.on k.station.server (own_pending own k.hosted.region kind.Opened None) e
     may_enter = record {
