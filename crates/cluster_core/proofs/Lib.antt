@@ -1,7 +1,9 @@
 pub mod Absorbed
 pub mod Accepted
+pub mod Acknowledged
 pub mod Answering
 pub mod Beside
+pub mod Between
 pub mod Commas
 pub mod Finds
 pub mod Frames
