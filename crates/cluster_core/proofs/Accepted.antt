@@ -1,5 +1,5 @@
 -- An entry was accepted by a host: it is the last pending one of its server, and the log is whole or broken.
-use Rattle.std.proofs.Common.{ℕ, suc, ◌+◌, ◌-◌, ◌<◌, ◌≡◌, ◌≢◌, ◌==◌, ◌^◌, ◌⊎◌, inl, inr, not, Bool, true, false, cond, List, [], ◌∷◌, ◌++◌, map, find, set, slice_get, Option, Some, None, refl, ap, sym, ◌∙◌, subst, arith, eq-eqb, ne_eqb, eqb-true, append_assoc, append-nil}
+use Rattle.std.proofs.Common.{ℕ, ◌+◌, ◌-◌, ◌<◌, ◌≡◌, ◌≢◌, ◌==◌, ◌^◌, inl, inr, not, Bool, true, false, cond, List, [], ◌∷◌, ◌++◌, map, find, position, set, slice_get, Option, Some, None, refl, ap, sym, ◌∙◌, subst, arith, eq-eqb, ne_eqb, eqb-true, append_assoc, append-nil}
 use Rattle.std.specs.List.{AllByRecursion}
 use Rattle.std.proofs.lemmas.Bool.{cases_eq}
 use Rattle.std.proofs.lemmas.List.{map-append}
@@ -12,20 +12,18 @@ use Rattle.wal_roll.specs.Steps.{OnlyFile, pushed, broken_by}
 use Rattle.region_server.specs.Host.{HostValue, IsHost, with_ticket}
 use Rattle.region_meta.proofs.Changing.{set-same}
 use Rattle.rep_model.specs.Keyed.{replace}
-use Rattle.rep_model.specs.State.{is_server, is_region, is_peer}
+use Rattle.rep_model.specs.State.{is_server}
 use Rattle.rep_model.specs.Changes.{takes_pending}
 use Rattle.rep_model.specs.Commits.{commit_of, commit_count, pending_count}
 use Rattle.rep_model.specs.declared.machine.Side.{Side}
 use Rattle.rep_model.specs.declared.machine.Server.{Server}
 use Rattle.rep_model.specs.declared.machine.Commit.{Commit}
-use Rattle.rep_model.specs.declared.machine.Hosted.{Hosted}
 use Rattle.rep_model.specs.declared.machine.Pending.{Pending}
-use Rattle.rep_model.proofs.Replacing.{replace-at}
+use Rattle.rep_model.proofs.Replacing.{find-at, replace-at}
 use Rattle.rep_laws.proofs.Lists.{All_weaker, All_append}
 use Rattle.rep_laws.proofs.Finding.{find_replaced, find_elsewhere}
 use Rattle.rep_laws.proofs.Synced.{map_replaced}
 use Rattle.cluster_core.specs.declared.parts.Station.{Station}
-use Rattle.cluster_core.specs.declared.parts.Trace.{Trace}
 use Rattle.cluster_core.specs.declared.parts.Line.{Line}
 use Rattle.cluster_core.specs.declared.parts.ClusterCore.{ClusterCore}
 use Rattle.cluster_core.specs.Absorbing.{standing_so, change_at, pended_trace}
@@ -35,11 +33,12 @@ use Rattle.cluster_core.specs.Entries.{entry_of, coming, pending_entries, ticket
 use Rattle.cluster_core.specs.Logs.{log_of, IsFresh, IsSealedLog, Current, LogsStand}
 use Rattle.cluster_core.specs.Lookups.{HasStation}
 use Rattle.cluster_core.specs.Memory.{trace_of, shelf_of, IndexStands, IsAt}
-use Rattle.cluster_core.specs.Stands.{waiting, StationStands, StationAt, ServerTold, RecordAt, RecordsStand, QueuesStand, Stands, is_station}
+use Rattle.cluster_core.specs.Stands.{waiting, StationStands, StationAt, ServerTold, RecordAt, Stands, is_station}
 use Rattle.cluster_core.specs.Texts.{RecordKey, OfTable, OfRegion, OfBarriers, OfServer, OfPeer, key_text}
-use Rattle.cluster_core.proofs.Frames.{SameLogs, station_same}
+use Rattle.cluster_core.proofs.Frames.{station_same}
 use Rattle.cluster_core.proofs.Lookups.{server_number}
 use Rattle.cluster_core.proofs.Naming.{named_apart}
+use Rattle.cluster_core.proofs.Places.{replaced_place}
 use Rattle.cluster_core.proofs.Tracing.{count_push, pending_first, traces_pended}
 
 -- a station that keeps its host
@@ -218,6 +217,24 @@ module _ (own : Cluster) (old new : Contents) (core : ClusterCore) (side : Side)
         (station_moved new side now t (find (is_station t) core.stations) (find (is_server t) side.servers) refl
         (station_same old new side t (find (is_station t) core.stations) (find (is_server t) side.servers) (λ v e. server_number t side.servers v e) (λ l. file_apart t l (λ e _. n (sym here.number ∙ e))) (stands.servers t))))
   ]
+
+  station_again : position (is_station s) stations ≡ Some at
+  station_again = ap (position (is_station s)) stations_are ∙ (replaced_place (is_station s) seated core.stations (eq-eqb h.log.server s host_number) ∙ here.first)
+
+  -- its station is where it was
+  pub accepted_station : (k : HasStation new (standing_so (takes_pending p whole here.server) side) (set core.stations at (record here.station { host = h })) s at) × (k.server ≡ takes_pending p whole here.server)
+  accepted_station =
+      let k : HasStation new now stations s at = record {
+        server = next;
+        known = server_found;
+        number = here.number;
+        station = seated;
+        there = sym (find-at (is_station s) stations at station_again) ∙ station_found;
+        first = station_again;
+        found = station_found;
+        stands = station_here;
+      } in
+      (k, refl)
 
   known_by_number : find (is_server here.server.number) side.servers ≡ Some here.server
   known_by_number = subst (λ k. find (is_server k) side.servers ≡ Some here.server) (sym here.number) here.known

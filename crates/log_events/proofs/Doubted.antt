@@ -20,8 +20,8 @@ use Rattle.rep_model.specs.declared.machine.Told.TheVariants as told
 use Rattle.rep_laws.proofs.Sides.{told_after}
 use Rattle.cluster_core.specs.Does.{Reached}
 use Rattle.cluster_core.specs.Entries.{tickets_of}
-use Rattle.log_events.proofs.Acknowledged.{all_plain}
-use Rattle.log_events.proofs.Telling.{put_first, tell_from, told_from, first_told, pending_newly_told}
+use Rattle.cluster_core.proofs.Acknowledged.{all_plain}
+use Rattle.cluster_core.proofs.Telling.{put_first, tell_from, told_from, first_told, pending_newly_told}
 
 -- ---- tickets that were told
 

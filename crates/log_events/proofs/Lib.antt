@@ -1,4 +1,3 @@
-pub mod Acknowledged
 pub mod Begun
 pub mod Doubted
 pub mod Ended
@@ -6,5 +5,4 @@ pub mod Refused
 pub mod RollBegun
 pub mod RollDone
 pub mod SyncDone
-pub mod Telling
 pub mod Unbegun

@@ -41,7 +41,7 @@ use Rattle.cluster_core.proofs.Settling.{left_with, of_left, beside_left, flight
 use Rattle.cluster_core.proofs.Simple.{simple_refused, simple_faulted, simple_done, does_nothing}
 use Rattle.log_events.specs.Refusals.{roll_refusals, roll_refusal}
 use Rattle.log_events.proofs.Doubted.{doubtful_stay, doubtful_are}
-use Rattle.log_events.proofs.Telling.{told_from}
+use Rattle.cluster_core.proofs.Telling.{told_from}
 
 -- ---- the row, by whether new logs are dual
 

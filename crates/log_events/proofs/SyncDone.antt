@@ -21,7 +21,6 @@ use Rattle.rep_model.specs.declared.machine.Side.{Side}
 use Rattle.rep_model.specs.declared.machine.Server.{Server}
 use Rattle.rep_model.specs.declared.machine.Pending.{Pending}
 use Rattle.rep_model.specs.declared.machine.Ticket.{Ticket}
-use Rattle.rep_model.specs.declared.machine.Told.TheVariants as told
 use Rattle.rep_laws.proofs.Sides.{told_after}
 use Rattle.cluster_core.specs.declared.parts.ClusterCore.{ClusterCore}
 use Rattle.cluster_core.specs.Absorbing.{standing_so, committed_side}
@@ -32,8 +31,7 @@ use Rattle.cluster_core.proofs.Answering.{refused, let_through, faulted_one, doe
 use Rattle.cluster_core.proofs.Settling.{left_with, of_left, beside_left, flights_left, settled_left}
 use Rattle.cluster_core.proofs.Simple.{does_with}
 use Rattle.log_events.specs.Refusals.{sync_refusal}
-use Rattle.log_events.proofs.Telling.{told_from}
-use Rattle.log_events.proofs.Acknowledged.{all_plain, acks_are}
+use Rattle.cluster_core.proofs.Acknowledged.{plain_from, all_plain, acks_are}
 
 -- ---- the row
 
@@ -83,8 +81,8 @@ sync_done own s m srv c core n ks pair reached e there live link long tickets st
     let ts : List Ticket = told_after own srv.number srv.log srv.pending (standing_so (emptied srv) side) m.tickets in
     let after : Machine = synced_with own srv [] m in
     let is : after ≡ left_with own left ts m = after_sync own srv m in
-    let tickets_are : after.tickets ≡ told_from told.Plain 1 (tickets_of srv.pending) m.tickets = ap (λ (k : Machine). k.tickets) is ∙ all_plain own srv.number srv.log srv.pending (standing_so (emptied srv) side) m.tickets link in
-    let acked : acks m after ≡ tickets_of srv.pending = ap (newly is_acknowledged 1 m.tickets) tickets_are ∙ acks_are own pair m reached s srv there live in
+    let told : after.tickets ≡ plain_from 1 (tickets_of srv.pending) m.tickets = ap (λ (k : Machine). k.tickets) is ∙ all_plain own srv.number srv.log srv.pending (standing_so (emptied srv) side) m.tickets link in
+    let acked : acks m after ≡ tickets_of srv.pending = ap (newly is_acknowledged 1 m.tickets) told ∙ acks_are own pair m reached s srv there live in
     let kept : ks ≡ tickets_of srv.pending = tickets ∙ ap (λ b. waiting b (tickets_of srv.pending)) live in
     let said : answers (reply.Synced (length srv.pending) (acks m after)) after ≡ answers (reply.Synced n ks) after =
     ap (λ k. answers (reply.Synced k (acks m after)) after) (sym long) ∙ ap (λ xs. answers (reply.Synced n xs) after) (acked ∙ sym kept) in
