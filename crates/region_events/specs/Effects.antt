@@ -1,6 +1,8 @@
 -- What events of tables and regions leave of memory.
-use Rattle.std.specs.Prelude.{ℕ, ◌+◌, ◌-◌, ◌^◌, ◌<◌, ◌≡◌, List, [], ◌∷◌, ◌++◌, None, Some, slice_get}
+use Rattle.std.specs.Prelude.{ℕ, ◌+◌, ◌-◌, ◌^◌, ◌<◌, ◌≤◌, ◌≡◌, List, [], ◌∷◌, ◌++◌, None, Some, slice_get}
+use Rattle.std.specs.Option.{ForSome}
 use Rattle.rep_types.specs.declared.table.Family.{Family}
+use Rattle.region_barriers.specs.History.{last_barrier}
 use Rattle.rep_types.specs.declared.state.PlaceOf.TheVariants as place
 use Rattle.rep_vault.specs.declared.store.Change.{Change}
 use Rattle.region_meta.specs.Regions.{region_of}
@@ -56,3 +58,7 @@ pub record IsPrepared (core : ClusterCore) (r s n : ℕ) (changes : List Change)
   pub there : slice_get core.index.traces (r - 1) ≡ Some trace
   pub barrier : n ≡ trace.commits + 1
   pub texts : changes ≡ opening_changes s (with_barrier n trace.barriers.barriers) region
+
+-- the last barrier of the region with the trace at this place isn't above this one
+abbrev pub Reaches : ℕ → ℕ → List Trace → Type 0
+Reaches n k traces = (t : Trace) → slice_get traces k ≡ Some t → ForSome (last_barrier t.barriers) (λ last. last ≤ n)

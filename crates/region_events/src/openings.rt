@@ -1,8 +1,9 @@
-ghost use Rattle.std.specs.Prelude.{◌≡◌, ◌+◌, ◌-◌, ◌<◌, ◌≤◌, [], ◌∷◌, false, None, Some, IsSome, IfOk, IfSome, OnOk, length, slice_get};
+ghost use Rattle.std.specs.Prelude.{◌≡◌, ◌+◌, ◌-◌, ◌<◌, ◌≤◌, [], ◌∷◌, None, Some, IsSome, IfOk, IfSome, OnOk, length, slice_get};
 ghost use Rattle.std.specs.Option.{ForSome};
 ghost use Rattle.rep_vault.specs.Contents.{Contents};
 ghost use Rattle.rep_types.specs.declared.event.Event.TheVariants as event;
 ghost use Rattle.rep_types.specs.declared.state.PlaceOf.TheVariants as place;
+ghost use Rattle.region_barriers.specs.History.{last_barrier};
 ghost use Rattle.region_meta.specs.Regions.{region_of};
 ghost use Rattle.rep_model.specs.State.{of};
 ghost use Rattle.rep_model.specs.Places.{is_off};
@@ -15,7 +16,7 @@ ghost use Rattle.cluster_core.specs.Lookups.{ServersStand};
 ghost use Rattle.cluster_core.specs.Memory.{map_of};
 ghost use Rattle.cluster_core.specs.Stands.{Stands};
 ghost use Rattle.cluster_core.specs.Does.{Standing, Reached, Answers, Counts, FaultTold};
-ghost use Rattle.region_events.specs.Effects.{opened_trace, with_opening, opening_changes, IsPrepared};
+ghost use Rattle.region_events.specs.Effects.{opened_trace, with_opening, opening_changes, IsPrepared, Reaches};
 ghost use Rattle.region_events.specs.Refusals.{open_refusal};
 
 use cluster_core::{
@@ -94,25 +95,14 @@ fn next_barriers(alloc: Global, barriers: &[u64], barrier: u64) -> Result<Vec<u6
     Ok(next)
 }
 
-// Whether the last barrier is above this one, which no legal run brings about.
-fn falls(barriers: &[u64], barrier: u64) -> bool
-    ensures { result ≡ false → ForSome (slice_get barriers.now (length barriers.now - 1)) (λ last. last ≤ barrier) }
-{
-    match barriers.last() {
-        Some(last) => *last > barrier,
-        None => false,
-    }
-}
-
+// The last barrier isn't above this one.
 fn add_barrier(barriers: &mut Barriers, barrier: u64) -> Result<(), Memory>
     requires least { 1 ≤ barrier }
+    requires order { ForSome (last_barrier barriers.old) (λ last. last ≤ barrier) }
     ensures { OnOk result (barriers.new ≡ record barriers.old { barriers = with_barrier barrier barriers.old.barriers }) }
 {
     if is_last(barriers.barriers(), barrier) {
         return Ok(());
-    }
-    if falls(barriers.barriers(), barrier) {
-        return Err(Memory);
     }
     barriers.add(barrier)
 }
@@ -168,6 +158,7 @@ fn prepare(
 fn note(traces: &mut Items<Trace>, region: RegionId, barrier: u64) -> Result<(), Memory>
     requires within { region - 1 < length traces.old }
     requires least { 1 ≤ barrier }
+    requires order { Reaches barrier (region - 1) traces.old }
     ensures { OnOk result (traces.new ≡ change_at (opened_trace barrier) (region - 1) traces.old) }
 {
     let trace = traces.at_mut(region.number() as usize - 1);
@@ -184,6 +175,7 @@ fn open(
     requires known { IsSome (region_of region core.old.map) }
     requires within { region - 1 < length core.old.index.traces }
     requires least { 1 ≤ barrier }
+    requires order { Reaches barrier (region - 1) core.old.index.traces }
     ensures { OnOk result (core.new ≡ with_opening region server barrier core.old) }
 {
     note(&mut core.index.traces, region, barrier)?;

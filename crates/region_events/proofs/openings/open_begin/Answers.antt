@@ -1,7 +1,7 @@
 use Rattle.std.proofs.Common.{List, ap, ◌∙◌}
 use Rattle.rep_vault.specs.declared.store.Change.{Change}
 use Rattle.rep_vault.specs.Contents.{with_records}
-use Rattle.region_events.proofs.OpeningBegun.{open_refused, open_faulted, open_known, open_traced, open_done}
+use Rattle.region_events.proofs.OpeningBegun.{open_refused, open_faulted, open_known, open_traced, open_rises, open_done}
 use Rattle.region_events.proofs.openings.open_begin.Goals as goal
 
 pub returns-in-Some-clause-does : goal.returns-in-Some-clause-does
@@ -15,6 +15,10 @@ prepare-requires-clause-traced g c = let k = c.requires in open_traced _ _ _ c.a
 
 pub open-requires-clause-within : goal.open-requires-clause-within
 open-requires-clause-within g c = let k = c.requires in open_traced _ _ _ c.args.region c.args.server k.0 k.2 (c.in-None.ensures k.0 (g.V.Vault.contents c.args.own.now) k.2.regions k.2.servers) k.1
+
+pub open-requires-clause-order : goal.open-requires-clause-order
+open-requires-clause-order g c = let k = c.requires in
+    open_rises _ _ _ c.args.region c.args.server k.0 k.2 (c.in-None.ensures k.0 (g.V.Vault.contents c.args.own.now) k.2.regions k.2.servers) k.1 c.in-Ok.next.barrier _ c.in-Ok.ensures
 
 pub returns-in-Ok-open-clause-does : goal.returns-in-Ok-open-clause-does
 returns-in-Ok-open-clause-does g c = λ m reached stands.

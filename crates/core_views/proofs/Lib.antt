@@ -1,0 +1,4 @@
+mod Living
+mod SeenQueue
+mod SeenRegion
+mod SeenSide

@@ -1,0 +1,6 @@
+use Rattle.std.proofs.Common.{◌∙◌}
+use Rattle.core_views.proofs.SeenQueue.{line_is_queue}
+use Rattle.core_views.proofs.queues.queue_view.Goals as goal
+
+pub returns : goal.returns
+returns c = record { seen = λ k m reached stands. c.line_seen.ensures ∙ line_is_queue c.args.core.now.own k c.args.core.now m reached stands c.args.peer c.args.server }
