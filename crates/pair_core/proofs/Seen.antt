@@ -1,5 +1,5 @@
 -- One cluster's event, seen from both.
-use Rattle.std.proofs.Common.{ℕ, ◌+◌, ◌≡◌, false, true, Option, Some, None, List, map, length, refl, sym, ap, ◌∙◌, subst}
+use Rattle.std.proofs.Common.{ℕ, ◌+◌, ◌-◌, ◌^◌, ◌<◌, ◌≤◌, ◌≡◌, Result, Err, min, arith, false, true, Option, Some, None, List, map, length, refl, sym, ap, ◌∙◌, subst}
 use Rattle.std.proofs.lemmas.Bool.{false≢true}
 use Rattle.std.specs.Prelude.{IfSome}
 use Rattle.std.specs.Option.{option_map}
@@ -25,14 +25,16 @@ use Rattle.rep_laws.specs.Growing.{accepted, Grows}
 use Rattle.rep_laws.proofs.RowLengths.{row_grows}
 use Rattle.cluster_core.specs.declared.parts.Sent.{Sent}
 use Rattle.cluster_core.specs.declared.parts.ClusterCore.{ClusterCore}
+use Rattle.cluster_core.specs.declared.parts.CoreError.{CoreError}
+use Rattle.cluster_core.specs.declared.parts.CoreError.TheVariants as failed
 use Rattle.cluster_core.specs.Stands.{Stands}
-use Rattle.cluster_core.specs.Does.{Reached, Flies, Does, IsTold, CauseTold, FaultTold, sent_of}
+use Rattle.cluster_core.specs.Does.{Reached, Flies, FliesOr, Does, IsTold, CauseTold, FaultTold, sent_of}
 use Rattle.queue_events.specs.Flights.{IsFrom}
 use Rattle.queue_events.proofs.Confirmed.{sent_is}
 use Rattle.pair_core.specs.declared.sides.Sides.{Sides}
 use Rattle.pair_core.specs.Served.{source_of}
-use Rattle.pair_core.specs.Sides.{Both, of, AllStand}
-use Rattle.pair_core.specs.Performs.{Done, Rose, FaultRose}
+use Rattle.pair_core.specs.Sides.{Both, of, AllStand, Standing, IsHere}
+use Rattle.pair_core.specs.Performs.{Done, Performs, Rose, FaultRose}
 
 -- an event that isn't of flights leaves them
 pub flies_none : (own : Cluster) (r : Row) (m : Machine) (c : Contents) (core : ClusterCore) (flights : List Sent) (said : Reply) → flights ≡ map sent_of m.flights → Does own r m c core said → Flies own r m c core flights said
@@ -102,3 +104,71 @@ from_here (Some f) own e = e
 -- a flight whose event is performed here was sent from here
 pub source_here : (m : Machine) → Reached m → (flights : List Sent) → flights ≡ map sent_of m.flights → (k : ℕ) (own : Cluster) → source_of k flights ≡ own → IsFrom own k m
 source_here m reached flights are k own e = from_here (flight_of k m) own (ap (λ (o : Option Sent). given o A (λ (f : Sent). f.cluster)) (sym (sent_is m reached k)) ∙ (ap (λ (fs : List Sent). source_of k fs) (sym are) ∙ e))
+
+-- ---- what a cluster knows
+
+here_a : (c d : Contents) (sides : Sides) (m : Machine) → Reached m → AllStand (record { a = c; b = d }) sides m → IsHere sides.a.own c sides.a sides.b.map sides.flights sides.tickets m
+here_a c d sides m reached all = subst (λ (own : Cluster). IsHere own c sides.a sides.b.map sides.flights sides.tickets m) (sym all.a.own_is)
+    (record { reached = reached; stands = all.a; beside_is = all.b.regions; framed = all.b.framed; flights_are = all.flights; tickets_are = all.tickets })
+
+here_b : (c d : Contents) (sides : Sides) (m : Machine) → Reached m → AllStand (record { a = d; b = c }) sides m → IsHere sides.b.own c sides.b sides.a.map sides.flights sides.tickets m
+here_b c d sides m reached all = subst (λ (own : Cluster). IsHere own c sides.b sides.a.map sides.flights sides.tickets m) (sym all.b.own_is)
+    (record { reached = reached; stands = all.b; beside_is = all.a.regions; framed = all.a.framed; flights_are = all.flights; tickets_are = all.tickets })
+
+pub knows_a : (c : Contents) (sides : Sides) → (d : Contents) × Standing (record { a = c; b = d }) sides → (m : Machine) × IsHere sides.a.own c sides.a sides.b.map sides.flights sides.tickets m
+knows_a c sides s = (s.1.0, here_a c s.0 sides s.1.0 s.1.1 s.1.2)
+
+pub knows_b : (c : Contents) (sides : Sides) → (d : Contents) × Standing (record { a = d; b = c }) sides → (m : Machine) × IsHere sides.b.own c sides.b sides.a.map sides.flights sides.tickets m
+knows_b c sides s = (s.1.0, here_b c s.0 sides s.1.0 s.1.1 s.1.2)
+
+few_tickets : (tickets n : ℕ) → tickets < 2 ^ 32 - 1 → n ≤ 1 → min (tickets + n) 4294967295 ≡ tickets + n
+few_tickets tickets n small one = omega arith
+
+at_most_one : (said : Reply) → accepted said ≤ 1
+at_most_one (reply.Accepted region seq ticket) = omega arith
+at_most_one _ = omega arith
+
+-- an event of cluster A, from what the cluster says of it
+pub performed_a : (e : Event) (said : Reply) (c c' d : Contents) (sides : Sides) (core : ClusterCore) (flights : List Sent) (tickets : ℕ) (m : Machine) → Reached m → AllStand (record { a = c; b = d }) sides m
+    → ((k : Machine) → IsHere sides.a.own c sides.a sides.b.map sides.flights sides.tickets k → Flies sides.a.own (row e said k) k c' core flights said) → sides.tickets < 2 ^ 32 - 1 → tickets ≡ min (sides.tickets + accepted said) 4294967295
+    → Done (row e said m) (record { a = c'; b = d }) (record { a = core; b = sides.b; flights = flights; tickets = tickets }) said
+performed_a e said c c' d sides core flights tickets m reached all h small more =
+    done_in_a e said m (record { a = c; b = d }) sides c' core flights tickets all
+    (subst (λ (own : Cluster). Flies own (row e said m) m c' core flights said) all.a.own_is (h m (here_a c d sides m reached all)))
+    (more ∙ few_tickets sides.tickets (accepted said) small (at_most_one said))
+
+pub performed_b : (e : Event) (said : Reply) (c c' d : Contents) (sides : Sides) (core : ClusterCore) (flights : List Sent) (tickets : ℕ) (m : Machine) → Reached m → AllStand (record { a = d; b = c }) sides m
+    → ((k : Machine) → IsHere sides.b.own c sides.b sides.a.map sides.flights sides.tickets k → Flies sides.b.own (row e said k) k c' core flights said) → sides.tickets < 2 ^ 32 - 1 → tickets ≡ min (sides.tickets + accepted said) 4294967295
+    → Done (row e said m) (record { a = d; b = c' }) (record { a = sides.a; b = core; flights = flights; tickets = tickets }) said
+performed_b e said c c' d sides core flights tickets m reached all h small more =
+    done_in_b e said m (record { a = d; b = c }) sides c' core flights tickets all
+    (subst (λ (own : Cluster). Flies own (row e said m) m c' core flights said) all.b.own_is (h m (here_b c d sides m reached all)))
+    (more ∙ few_tickets sides.tickets (accepted said) small (at_most_one said))
+
+-- where memory ran out
+pub failed_a : (e : Event) (why : CoreError) (c c' d : Contents) (sides : Sides) (core : ClusterCore) (flights : List Sent) (m : Machine) → Reached m → AllStand (record { a = c; b = d }) sides m
+    → ((k : Machine) → IsHere sides.a.own c sides.a sides.b.map sides.flights sides.tickets k → FliesOr sides.a.own e k c sides.a sides.flights c' core flights (Err why))
+    → Performs e m (record { a = c; b = d }) sides (record { a = c'; b = d }) (record { a = core; b = sides.b; flights = flights; tickets = sides.tickets }) (Err why)
+failed_a e (failed.Memory changed) c c' d sides core flights m reached all h = λ same.
+    let k = h m (here_a c d sides m reached all) same in
+    (ap (λ (x : ClusterCore). record sides { a = x; flights = flights }) k.0 ∙ ap (λ (fs : List Sent). record sides { flights = fs }) k.1.1, ap (λ (x : Contents). let two : Both Contents = record { a = x; b = d } in two) k.1.0)
+
+pub failed_b : (e : Event) (why : CoreError) (c c' d : Contents) (sides : Sides) (core : ClusterCore) (flights : List Sent) (m : Machine) → Reached m → AllStand (record { a = d; b = c }) sides m
+    → ((k : Machine) → IsHere sides.b.own c sides.b sides.a.map sides.flights sides.tickets k → FliesOr sides.b.own e k c sides.b sides.flights c' core flights (Err why))
+    → Performs e m (record { a = d; b = c }) sides (record { a = d; b = c' }) (record { a = sides.a; b = core; flights = flights; tickets = sides.tickets }) (Err why)
+failed_b e (failed.Memory changed) c c' d sides core flights m reached all h = λ same.
+    let k = h m (here_b c d sides m reached all) same in
+    (ap (λ (x : ClusterCore). record sides { b = x; flights = flights }) k.0 ∙ ap (λ (fs : List Sent). record sides { flights = fs }) k.1.1, ap (λ (x : Contents). let two : Both Contents = record { a = d; b = x } in two) k.1.0)
+
+pub told_a : (said : Reply) (c : Contents) (sides : Sides) (old new : Tally) → (d : Contents) × Standing (record { a = c; b = d }) sides → FaultTold sides.a.own said old new → FaultTold A said old new
+told_a said c sides old new s told = subst (λ (own : Cluster). FaultTold own said old new) s.1.2.a.own_is told
+
+pub told_b : (said : Reply) (c : Contents) (sides : Sides) (old new : Tally) → (d : Contents) × Standing (record { a = d; b = c }) sides → FaultTold sides.b.own said old new → FaultTold B said old new
+told_b said c sides old new s told = subst (λ (own : Cluster). FaultTold own said old new) s.1.2.b.own_is told
+
+-- an event's cluster is that of the side that performs it
+pub at_a : (at : Cluster) (c : Contents) (sides : Sides) → at ≡ A → (d : Contents) × Standing (record { a = c; b = d }) sides → at ≡ sides.a.own
+at_a at c sides e s = e ∙ sym s.1.2.a.own_is
+
+pub at_b : (at : Cluster) (c : Contents) (sides : Sides) → at ≡ B → (d : Contents) × Standing (record { a = d; b = c }) sides → at ≡ sides.b.own
+at_b at c sides e s = e ∙ sym s.1.2.b.own_is

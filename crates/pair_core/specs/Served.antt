@@ -20,10 +20,12 @@ abbrev pub is_served : Event → Bool
 is_served (event.Server c s) = true
 is_served (event.Table c t fs) = true
 is_served (event.OpenBegin c r s) = true
+is_served (event.OpenEnd c r) = true
 is_served (event.Put c t k cells) = true
 is_served (event.Get c t k) = true
 is_served (event.Show c t) = true
 is_served (event.Sync c s) = true
+is_served (event.Roll c s) = true
 is_served (event.Peer c p k ts) = is_plain k
 is_served (event.Confirm f) = true
 is_served _ = false
@@ -37,10 +39,12 @@ abbrev pub cluster_of : List Sent → Event → Cluster
 cluster_of flights (event.Server c s) = c
 cluster_of flights (event.Table c t fs) = c
 cluster_of flights (event.OpenBegin c r s) = c
+cluster_of flights (event.OpenEnd c r) = c
 cluster_of flights (event.Put c t k cells) = c
 cluster_of flights (event.Get c t k) = c
 cluster_of flights (event.Show c t) = c
 cluster_of flights (event.Sync c s) = c
+cluster_of flights (event.Roll c s) = c
 cluster_of flights (event.Peer c p k ts) = c
 cluster_of flights (event.Confirm f) = source_of f flights
 cluster_of flights _ = A

@@ -1,8 +1,10 @@
 // One event, performed by its cluster.
 ghost use Rattle.std.specs.Prelude.{◌≡◌, ◌+◌, ◌-◌, ◌^◌, ◌<◌, IfOk, length, true};
+ghost use Rattle.rep_types.specs.declared.ids.Cluster.TheVariants as cluster;
 ghost use Rattle.rep_types.specs.declared.event.Event.TheVariants as event;
 ghost use Rattle.rep_types.specs.declared.state.Kind.TheVariants as kind;
 ghost use Rattle.rep_model.specs.State.{of, other};
+ghost use Rattle.rep_vault.specs.Contents.{Contents};
 ghost use Rattle.rep_model.specs.Words.{is_worded};
 ghost use Rattle.rep_model.specs.declared.machine.Machine.{Machine};
 ghost use Rattle.cluster_core.specs.Memory.{map_of};
@@ -15,11 +17,11 @@ ghost use Rattle.pair_core.specs.Performs.{Performs, FaultRose};
 
 use crate::sides::{Sides, accepted, cluster_of};
 use cluster_core::{ClusterCore, CoreError, Sent};
-use log_events::sync;
+use log_events::{roll, sync};
 use peer_events::peer;
 use queue_events::confirm;
 use read_events::{get, show};
-use region_events::{open_begin, table};
+use region_events::{open_begin, open_end, table};
 use region_meta::RegionMap;
 use rep_types::{
     Cells, Cluster, Duplicate, Event, Families, Items, Key, Kind, Name, Names, PeerId, Reply,
@@ -122,12 +124,14 @@ fn on_side<V: Vault>(
             table: name, specs, ..
         } => make_table(core, alloc, own, name, specs),
         Event::OpenBegin { region, server, .. } => open_begin(core, alloc, own, *region, *server),
+        Event::OpenEnd { region, .. } => open_end(core, alloc, own, *region),
         Event::Put {
             table, row, cells, ..
         } => put_cells(core, alloc, own, table, row, cells, tickets + 1),
         Event::Get { table, row, .. } => get(alloc, core, table, row),
         Event::Show { table, .. } => show(alloc, core, table),
         Event::Sync { server, .. } => sync(core, alloc, own, *server),
+        Event::Roll { server, .. } => roll(core, alloc, own, *server),
         Event::Peer {
             peer,
             kind: Kind::Plain,
@@ -137,6 +141,68 @@ fn on_side<V: Vault>(
         Event::Confirm { flight } => confirm(core, flights, *flight),
         _ => unreachable!(),
     }
+}
+
+// An event of cluster A; B is in a store with contents of its own.
+fn in_a<V: Vault>(
+    sides: &mut Sides,
+    alloc: Global,
+    own: &mut V,
+    event: &Event,
+) -> Result<Reply, CoreError>
+    requires standing { (c : Contents) × AllStanding (record { a = V.contents own.old; b = c }) sides.old }
+    requires served { is_served event.now ≡ true }
+    requires worded { is_worded event.now ≡ true }
+    requires here { cluster_of sides.old.flights event.now ≡ cluster.A }
+    requires room { sides.old.tickets < 2 ^ 32 - 1 }
+    ensures does { (c : Contents) (m : Machine) → Reached m → AllStand (record { a = V.contents own.old; b = c }) sides.old m
+        → Performs event.now m (record { a = V.contents own.old; b = c }) sides.old (record { a = V.contents own.new; b = c }) sides.new result }
+    ensures counts { Counts (V.tally own.old) (V.tally own.new) }
+    ensures told { IfOk result (λ reply. FaultTold cluster.A reply (V.tally own.old) (V.tally own.new)) }
+{
+    let tickets = sides.tickets;
+    let reply = on_side(
+        &mut sides.a,
+        alloc,
+        own,
+        &sides.b.map,
+        &mut sides.flights,
+        tickets,
+        event,
+    )?;
+    sides.tickets = tickets.saturating_add(accepted(&reply));
+    Ok(reply)
+}
+
+// An event of cluster B; A is in a store with contents of its own.
+fn in_b<V: Vault>(
+    sides: &mut Sides,
+    alloc: Global,
+    own: &mut V,
+    event: &Event,
+) -> Result<Reply, CoreError>
+    requires standing { (c : Contents) × AllStanding (record { a = c; b = V.contents own.old }) sides.old }
+    requires served { is_served event.now ≡ true }
+    requires worded { is_worded event.now ≡ true }
+    requires here { cluster_of sides.old.flights event.now ≡ cluster.B }
+    requires room { sides.old.tickets < 2 ^ 32 - 1 }
+    ensures does { (c : Contents) (m : Machine) → Reached m → AllStand (record { a = c; b = V.contents own.old }) sides.old m
+        → Performs event.now m (record { a = c; b = V.contents own.old }) sides.old (record { a = c; b = V.contents own.new }) sides.new result }
+    ensures counts { Counts (V.tally own.old) (V.tally own.new) }
+    ensures told { IfOk result (λ reply. FaultTold cluster.B reply (V.tally own.old) (V.tally own.new)) }
+{
+    let tickets = sides.tickets;
+    let reply = on_side(
+        &mut sides.b,
+        alloc,
+        own,
+        &sides.a.map,
+        &mut sides.flights,
+        tickets,
+        event,
+    )?;
+    sides.tickets = tickets.saturating_add(accepted(&reply));
+    Ok(reply)
 }
 
 /// One event: its reply, or want of memory, and whether something was changed before.
@@ -157,17 +223,9 @@ pub fn perform<V: Vault>(
     ensures counts_b { Counts (V.tally b.old) (V.tally b.new) }
     ensures told { IfOk result (λ reply. FaultRose reply (both V.tally a.old b.old) (both V.tally a.new b.new)) }
 {
-    let Sides {
-        a: side_a,
-        b: side_b,
-        flights,
-        tickets,
-    } = sides;
-    let reply = match cluster_of(flights, event) {
-        Cluster::A => on_side(side_a, alloc, a, &side_b.map, flights, *tickets, event)?,
-        Cluster::B => on_side(side_b, alloc, b, &side_a.map, flights, *tickets, event)?,
+    match cluster_of(&sides.flights, event) {
+        Cluster::A => in_a(sides, alloc, a, event),
+        Cluster::B => in_b(sides, alloc, b, event),
         Cluster::C => unreachable!(),
-    };
-    *tickets = tickets.saturating_add(accepted(&reply));
-    Ok(reply)
+    }
 }

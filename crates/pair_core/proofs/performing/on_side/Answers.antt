@@ -1,19 +1,11 @@
-use Rattle.std.proofs.Common.{rules, ◌≡◌, ◌+◌, ◌-◌, ◌^◌, ◌<◌, IfOk, length, true, ℕ, ◌*◌, ◌≤◌, ◌/◌, ◌%◌, Bool, false, nat_eq, nat_lt, List, [], ◌∷◌, ◌++◌, slice_index_or, slice_set, bit_and, bit_or, Fits, w8, w32, w64, Bor, MutBor}
-use Rattle.rep_types.specs.declared.event.Event.TheVariants as event
-use Rattle.rep_types.specs.declared.state.Kind.TheVariants as kind
-use Rattle.rep_model.specs.State.{of, other}
-use Rattle.rep_model.specs.Words.{is_worded}
-use Rattle.rep_model.specs.declared.machine.Machine.{Machine}
-use Rattle.cluster_core.specs.Memory.{map_of}
-use Rattle.cluster_core.specs.Stands.{Stands}
-use Rattle.cluster_core.specs.Does.{Reached, Standing, Counts, FaultTold, Answers, FliesOr}
-use Rattle.pair_core.specs.Served.{is_served, cluster_of}
-use Rattle.pair_core.specs.Sides.{Standing as AllStanding}
-use Rattle.pair_core.specs.Sides.{AllStand, IsHere}
-use Rattle.pair_core.specs.Pair.{both}
-use Rattle.pair_core.specs.Performs.{Performs, FaultRose}
+use Rattle.std.proofs.Common.{sym, ap, subst, ◌∙◌}
+use Rattle.rep_types.specs.declared.event.Event.{Event}
+use Rattle.cluster_core.specs.Does.{FliesOr}
+use Rattle.pair_core.specs.Served.{cluster_of}
+use Rattle.pair_core.proofs.Seen.{source_here}
 use Rattle.pair_core.proofs.performing.on_side.Goals as goal
 
--- src/performing.rt:100:1
 pub returns-in-Confirm-clause-does : goal.returns-in-Confirm-clause-does
-returns-in-Confirm-clause-does g c = ?
+returns-in-Confirm-clause-does g c = λ m h.
+    subst (λ (e : Event). FliesOr c.args.core.now.own e m (g.V.Vault.contents c.args.own.now) c.args.core.now c.args.flights.now (g.V.Vault.contents c.args.own.now) c.confirm.new.core c.args.flights.now c.confirm.result) (sym c.in-Confirm.is)
+    (c.confirm.ensures.does (g.V.Vault.contents c.args.own.now) m h.reached h.stands h.flights_are (source_here m h.reached c.args.flights.now h.flights_are c.in-Confirm.flight c.args.core.now.own (ap (cluster_of c.args.flights.now) (sym c.in-Confirm.is) ∙ c.requires.here)))
