@@ -69,17 +69,17 @@ is_some-map f (Some x) = refl
 abbrev tests : ℕ → Bool → Option ℕ → Bool → ℕ → Bool → List (Bool × Refusal)
 tests k known out living owner delivered = (false, refusal.NoFlight) ∷ (not known, refusal.NoPeer) ∷ (not (is_out k out), refusal.Stale out) ∷ (not living, refusal.OwnerDead owner) ∷ (not delivered, refusal.NotDelivered k) ∷ []
 
-out_is : (o : Option Line) → line_out o ≡ flight_out (option_map queue_of_line o)
+pub out_is : (o : Option Line) → line_out o ≡ flight_out (option_map queue_of_line o)
 unfolding given
 out_is None = refl
 out_is (Some l) = refl
 
-owner_is : (o : Option Line) → line_owner o ≡ owner_of (option_map queue_of_line o)
+pub owner_is : (o : Option Line) → line_owner o ≡ owner_of (option_map queue_of_line o)
 unfolding given
 owner_is None = refl
 owner_is (Some l) = refl
 
-living_is : (c : Cluster) (contents : Contents) (core : ClusterCore) (m : Machine) → Stands c contents core (of c m) → (o : Option Line) → if_some o (λ (x : Line). lives x.owner core.stations) ≡ owner_lives c (option_map queue_of_line o) m
+pub living_is : (c : Cluster) (contents : Contents) (core : ClusterCore) (m : Machine) → Stands c contents core (of c m) → (o : Option Line) → if_some o (λ (x : Line). lives x.owner core.stations) ≡ owner_lives c (option_map queue_of_line o) m
 unfolding given
 living_is c contents core m k None = refl
 living_is c contents core m k (Some l) = lives_is contents (of c m) l.owner _ _ (k.servers l.owner)
@@ -134,7 +134,7 @@ out_found k (Some q) e = (q, refl, out q.flight e)
     out None h = absurd (false≢true h)
     out (Some n) h = ap Some (eqb-true n k h)
 
-line_found : (o : Option Line) (q : Queue) → option_map queue_of_line o ≡ Some q → (l : Line) × (o ≡ Some l) × (queue_of_line l ≡ q)
+pub line_found : (o : Option Line) (q : Queue) → option_map queue_of_line o ≡ Some q → (l : Line) × (o ≡ Some l) × (queue_of_line l ≡ q)
 line_found None q e = absurd (none-some q e)
 line_found (Some l) q e = (l, refl, same_Some (queue_of_line l) q e)
 
@@ -156,12 +156,12 @@ refused_is : (k : ℕ) (why : Refusal) (o : Option Flight) (m : Machine) → fli
 unfolding confirm_row
 refused_is k why o m there e = refused (first (confirm_refusals k (flight_of k m) m)) why m _ (ap (λ p. first (confirm_refusals k p m)) there ∙ e)
 
-other_with : (c : Cluster) (s : Side) (m : Machine) → is_paired c ≡ true → of (other c) (with c s m) ≡ of (other c) m
+pub other_with : (c : Cluster) (s : Side) (m : Machine) → is_paired c ≡ true → of (other c) (with c s m) ≡ of (other c) m
 other_with A s m p = refl
 other_with B s m p = refl
 other_with C s m p = absurd (false≢true p)
 
-flies_as : (own : Cluster) (r : Row) (m left : Machine) (c : Contents) (core : ClusterCore) (fs : List Sent) (said : Reply) → r ≡ answers said left → Stands own c core (of own left) → of (other own) left ≡ of (other own) m → fs ≡ map sent_of left.flights → Flies own r m c core fs said
+pub flies_as : (own : Cluster) (r : Row) (m left : Machine) (c : Contents) (core : ClusterCore) (fs : List Sent) (said : Reply) → r ≡ answers said left → Stands own c core (of own left) → of (other own) left ≡ of (other own) m → fs ≡ map sent_of left.flights → Flies own r m c core fs said
 flies_as own r m left c core fs said e stands beside flights = subst (λ (q : Row). Flies own q m c core fs said) (sym e) (record { reply_is = refl; stands = stands; beside = beside; flights_are = flights })
 
 pub refused_flies : (own : Cluster) (k : ℕ) (why : Refusal) (m : Machine) (c : Contents) (core : ClusterCore) (fs : List Sent) → first (confirm_refusals k (flight_of k m) m) ≡ Some why → Stands own c core (of own m) → fs ≡ map sent_of m.flights
