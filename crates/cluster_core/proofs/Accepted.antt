@@ -1,5 +1,5 @@
 -- An entry was accepted by a host: it is the last pending one of its server, and the log is whole or broken.
-use Rattle.std.proofs.Common.{ℕ, suc, ◌+◌, ◌-◌, ◌<◌, ◌≡◌, ◌≢◌, ◌==◌, ◌^◌, ◌⊎◌, inl, inr, not, Bool, true, false, cond, List, [], ◌∷◌, ◌++◌, map, find, set, slice_get, Option, Some, None, refl, ap, sym, ◌∙◌, subst, arith, eq-eqb, ne_eqb, eqb-true, append_assoc, append-nil}
+use Rattle.std.proofs.Common.{ℕ, ◌+◌, ◌-◌, ◌<◌, ◌≡◌, ◌≢◌, ◌==◌, ◌^◌, inl, inr, not, Bool, true, false, cond, List, [], ◌∷◌, ◌++◌, map, find, set, slice_get, Option, Some, None, refl, ap, sym, ◌∙◌, subst, arith, eq-eqb, ne_eqb, eqb-true, append_assoc, append-nil}
 use Rattle.std.specs.List.{AllByRecursion}
 use Rattle.std.proofs.lemmas.Bool.{cases_eq}
 use Rattle.std.proofs.lemmas.List.{map-append}
@@ -12,20 +12,18 @@ use Rattle.wal_roll.specs.Steps.{OnlyFile, pushed, broken_by}
 use Rattle.region_server.specs.Host.{HostValue, IsHost, with_ticket}
 use Rattle.region_meta.proofs.Changing.{set-same}
 use Rattle.rep_model.specs.Keyed.{replace}
-use Rattle.rep_model.specs.State.{is_server, is_region, is_peer}
+use Rattle.rep_model.specs.State.{is_server}
 use Rattle.rep_model.specs.Changes.{takes_pending}
 use Rattle.rep_model.specs.Commits.{commit_of, commit_count, pending_count}
 use Rattle.rep_model.specs.declared.machine.Side.{Side}
 use Rattle.rep_model.specs.declared.machine.Server.{Server}
 use Rattle.rep_model.specs.declared.machine.Commit.{Commit}
-use Rattle.rep_model.specs.declared.machine.Hosted.{Hosted}
 use Rattle.rep_model.specs.declared.machine.Pending.{Pending}
 use Rattle.rep_model.proofs.Replacing.{replace-at}
 use Rattle.rep_laws.proofs.Lists.{All_weaker, All_append}
 use Rattle.rep_laws.proofs.Finding.{find_replaced, find_elsewhere}
 use Rattle.rep_laws.proofs.Synced.{map_replaced}
 use Rattle.cluster_core.specs.declared.parts.Station.{Station}
-use Rattle.cluster_core.specs.declared.parts.Trace.{Trace}
 use Rattle.cluster_core.specs.declared.parts.Line.{Line}
 use Rattle.cluster_core.specs.declared.parts.ClusterCore.{ClusterCore}
 use Rattle.cluster_core.specs.Absorbing.{standing_so, change_at, pended_trace}
@@ -35,9 +33,9 @@ use Rattle.cluster_core.specs.Entries.{entry_of, coming, pending_entries, ticket
 use Rattle.cluster_core.specs.Logs.{log_of, IsFresh, IsSealedLog, Current, LogsStand}
 use Rattle.cluster_core.specs.Lookups.{HasStation}
 use Rattle.cluster_core.specs.Memory.{trace_of, shelf_of, IndexStands, IsAt}
-use Rattle.cluster_core.specs.Stands.{waiting, StationStands, StationAt, ServerTold, RecordAt, RecordsStand, QueuesStand, Stands, is_station}
+use Rattle.cluster_core.specs.Stands.{waiting, StationStands, StationAt, ServerTold, RecordAt, Stands, is_station}
 use Rattle.cluster_core.specs.Texts.{RecordKey, OfTable, OfRegion, OfBarriers, OfServer, OfPeer, key_text}
-use Rattle.cluster_core.proofs.Frames.{SameLogs, station_same}
+use Rattle.cluster_core.proofs.Frames.{station_same}
 use Rattle.cluster_core.proofs.Lookups.{server_number}
 use Rattle.cluster_core.proofs.Naming.{named_apart}
 use Rattle.cluster_core.proofs.Tracing.{count_push, pending_first, traces_pended}

@@ -1,14 +1,12 @@
 -- Memory and a store stand still, once some of what is pending at a server is committed, and the server stands otherwise.
-use Rattle.std.proofs.Common.{ℕ, ◌+◌, ◌<◌, ◌≤◌, ◌≡◌, ◌≢◌, ◌==◌, ◌^◌, ◌⊎◌, inl, inr, Bool, true, false, List, [], ◌∷◌, ◌++◌, map, find, drop, length, Option, Some, None, refl, ap, sym, ◌∙◌, subst, eqb-true, eq-eqb, ne_eqb}
+use Rattle.std.proofs.Common.{ℕ, ◌≤◌, ◌≡◌, ◌⊎◌, inl, inr, Bool, true, false, List, [], ◌∷◌, ◌++◌, map, find, drop, length, Option, Some, None, refl, ap, sym, ◌∙◌, subst, eqb-true, eq-eqb, ne_eqb}
 use Rattle.std.specs.Option.{option_map}
 use Rattle.std.specs.List.{AllByRecursion}
 use Rattle.std.proofs.lemmas.Bool.{cases_eq}
-use Rattle.std.proofs.lemmas.List.{map-append}
 use Rattle.rep_types.specs.declared.ids.Cluster.{Cluster}
-use Rattle.rep_types.specs.declared.entry.Entry.{Entry}
-use Rattle.rep_vault.specs.Contents.{File, Contents}
+use Rattle.rep_vault.specs.Contents.{Contents}
 use Rattle.wal_entry.specs.Framed.{HasFrame}
-use Rattle.wal_roll.specs.Log.{Log, wal, log_name, writer_of}
+use Rattle.wal_roll.specs.Log.{wal, log_name, writer_of}
 use Rattle.region_server.specs.Host.{HostValue, IsHost}
 use Rattle.rep_model.specs.Keyed.{replace}
 use Rattle.rep_model.specs.State.{is_server, is_region, is_peer}
@@ -19,7 +17,7 @@ use Rattle.rep_model.specs.declared.machine.Commit.{Commit}
 use Rattle.rep_model.specs.declared.machine.Hosted.{Hosted}
 use Rattle.rep_model.specs.declared.machine.Pending.{Pending}
 use Rattle.rep_model.specs.declared.machine.Peer.{Peer}
-use Rattle.rep_laws.proofs.Lists.{All_weaker, All_append, All_found, All_mapped, found_passes}
+use Rattle.rep_laws.proofs.Lists.{All_weaker, All_append, All_found}
 use Rattle.rep_laws.proofs.Finding.{find_replaced, find_elsewhere}
 use Rattle.cluster_core.specs.declared.parts.Station.{Station}
 use Rattle.rep_types.specs.declared.state.Kind.TheVariants.{Plain}
@@ -27,13 +25,13 @@ use Rattle.cluster_core.specs.declared.parts.PeerLine.{PeerLine}
 use Rattle.cluster_core.specs.declared.parts.Line.{Line}
 use Rattle.cluster_core.specs.declared.parts.ClusterCore.{ClusterCore}
 use Rattle.cluster_core.specs.Entries.{entry_of, coming, pending_entries, log_entries, server_commits}
-use Rattle.cluster_core.specs.Logs.{log_of, IsFresh, IsSealedLog, Current, LogsStand}
+use Rattle.cluster_core.specs.Logs.{log_of, IsSealedLog, Current, LogsStand}
 use Rattle.cluster_core.specs.Memory.{map_of, IndexStands, IsAt, peer_line, queue_of_line}
 use Rattle.cluster_core.specs.Orderly.{ArePlaced, IsCounted, IsOrderly}
-use Rattle.cluster_core.specs.Stands.{StationStands, StationAt, ServerTold, RecordsStand, QueuesStand, Stands, is_station}
-use Rattle.cluster_core.specs.Texts.{RecordKey, OfTable, OfRegion, OfBarriers, OfServer, OfPeer, expected, opens_text, log_text}
+use Rattle.cluster_core.specs.Stands.{StationStands, StationAt, ServerTold, RecordsStand, Stands, is_station}
+use Rattle.cluster_core.specs.Texts.{RecordKey, OfTable, OfRegion, OfBarriers, OfServer, OfPeer, expected, opens_text}
 use Rattle.cluster_core.proofs.Frames.{SameLogs, station_same}
-use Rattle.cluster_core.proofs.Shelving.{OfLog, coming_of_log}
+use Rattle.cluster_core.proofs.Shelving.{coming_of_log}
 use Rattle.cluster_core.proofs.Beside.{log_aside, pending_beside, opens_beside, line_grows}
 use Rattle.cluster_core.proofs.RecordsPut.{Owes}
 use Rattle.cluster_core.proofs.Staying.{number_is}

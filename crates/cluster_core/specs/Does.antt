@@ -31,18 +31,19 @@ Reached m = (journal : List Record) × IsLegal journal × (state_of journal ≡ 
 abbrev pub Standing : Cluster → Contents → ClusterCore → Type 0
 Standing own c core = (m : Machine) × Reached m × Stands own c core (of own m)
 
--- a told fault is of the cluster's own store: it was counted, and its number is the sum over all kinds
-pub record IsTold (own store : Cluster) (n : ℕ) (old new : Tally) : Type 0 where
+-- a told fault is of the cluster's own store and of the kind that is told: it was counted, and its number is the sum over all kinds
+pub record IsTold (own store : Cluster) (call : Call) (n : ℕ) (old new : Tally) : Type 0 where
   pub store_is : store ≡ own
+  pub kind : old.faults call < new.faults call
   pub count : n ≡ total new.faults
   pub rose : total old.faults < total new.faults
 
 abbrev pub CauseTold : Cluster → Cause → Tally → Tally → Type 0
-CauseTold own (cause.StoreFault store call n) old new = IsTold own store n old new
+CauseTold own (cause.StoreFault store call n) old new = IsTold own store call n old new
 CauseTold own _ old new = Unit {0}
 
 abbrev pub FaultTold : Cluster → Reply → Tally → Tally → Type 0
-FaultTold own (reply.StoreFault store call n) old new = IsTold own store n old new
+FaultTold own (reply.StoreFault store call n) old new = IsTold own store call n old new
 FaultTold own (reply.Stopped index acks why) old new = CauseTold own why old new
 FaultTold own _ old new = Unit {0}
 

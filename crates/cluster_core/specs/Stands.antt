@@ -42,10 +42,10 @@ StationAt c side s None None = (l : ℕ) → IsFresh (c.files wal (log_name s l)
 StationAt c side s (Some st) None = ⊥
 StationAt c side s None (Some srv) = ⊥
 
--- the record of a server tells its current log; after a failed roll it may tell the next one
+-- the record of a server tells its current log; after a failed roll it may tell the next one, with or without a remote copy
 abbrev pub ServerTold : Option (List ℕ) → Option Server → Type 0
 ServerTold o None = o ≡ None
-ServerTold o (Some srv) = (o ≡ Some (log_text srv.log srv.dual)) ⊎ (o ≡ Some (log_text (srv.log + 1) srv.dual))
+ServerTold o (Some srv) = (o ≡ Some (log_text srv.log srv.dual)) ⊎ ((d : Bool) × (o ≡ Some (log_text (srv.log + 1) d)))
 
 -- the record under a key
 abbrev pub RecordAt : Contents → Side → RecordKey → Type 0

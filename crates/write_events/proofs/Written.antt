@@ -258,7 +258,7 @@ put_told (Err Broken) own server log region seq ticket old new b = tt
 put_told (Err (NeedRoll told size limit)) own server log region seq ticket old new b = tt
 put_told (Err (StoreFault kind count)) own server log region seq ticket old new b =
     let f = b.fault kind count refl in
-    record { store_is = refl; count = f.count; rose = f.rose }
+    record { store_is = refl; kind = f.kind; count = f.count; rose = f.rose }
 put_told (Err Memory) own server log region seq ticket old new b = tt
 
 pub told_by : (result : Result Reply CoreError) (r : Result (Unit {0}) LogError) (own : Cluster) (server log region seq ticket : ℕ) (old new : Tally) → result ≡ put_reply own server log region seq ticket r → Blamed old new r → IfOk result (λ (said : Reply). FaultTold own said old new)

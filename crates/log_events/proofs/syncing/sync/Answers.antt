@@ -54,7 +54,7 @@ returns-in-Err-StoreFault-clause-does g c = λ m reached stands.
 pub returns-in-Err-StoreFault-clause-told : goal.returns-in-Err-StoreFault-clause-told
 returns-in-Err-StoreFault-clause-told g c =
     let rise = c.in-Err-StoreFault.ensures.told c.in-Err-StoreFault.count (ap (λ e. Err e) c.in-Err-StoreFault.field-0-is) in
-    record { store_is = refl; count = rise.0; rose = rise.1 }
+    record { store_is = refl; kind = rise.kind; count = rise.count; rose = rise.rose }
 
 pub returns-in-Err-Memory-clause-does : goal.returns-in-Err-Memory-clause-does
 returns-in-Err-Memory-clause-does g c = λ m reached stands unchanged.

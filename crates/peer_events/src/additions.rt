@@ -1,0 +1,54 @@
+// A new peer and its queues in memory.
+ghost use Rattle.std.specs.Prelude.{◌≡◌, ◌++◌, OnOk};
+ghost use Rattle.peer_events.specs.Effects.{takes_queues, new_lines, with_added};
+
+use cluster_core::{ClusterCore, Line, PeerLine, Shelf, Station, find_station};
+use rep_model::Standing;
+use rep_types::{Items, Kind, Memory, Names, PeerId, ServerId};
+
+// Whether the server lives or isn't sealed.
+#[tactic(auto, unfolding(rep_model::specs::Keyed::given))]
+fn takes_queues(stations: &Items<Station>, server: ServerId) -> bool
+    ensures { result ≡ takes_queues server stations.now }
+{
+    match find_station(stations, server) {
+        Some(station) => station.live || !station.sealed,
+        None => false,
+    }
+}
+
+// A queue of the peer for each server that lives or isn't sealed, behind the present commits.
+fn add_lines(
+    lines: &mut Items<Line>,
+    peer: PeerId,
+    shelves: &Items<Shelf>,
+    stations: &Items<Station>,
+) -> Result<(), Memory>
+    ensures { OnOk result (lines.new ≡ lines.old ++ new_lines peer stations.now shelves.now) }
+{
+    for shelf in shelves.as_slice() {
+        if takes_queues(stations, shelf.server) {
+            lines.push(Line {
+                peer,
+                server: shelf.server,
+                owner: shelf.server,
+                flight: None,
+                at: shelf.kept.len() as u64,
+            })?;
+        }
+    }
+    Ok(())
+}
+
+/// Puts a peer into memory that is enabled and keeps no order, and its queues.
+pub fn add(core: &mut ClusterCore, peer: PeerId, tables: Names) -> Result<(), Memory>
+    ensures { OnOk result (core.new ≡ with_added peer tables core.old) }
+{
+    core.peers.push(PeerLine {
+        number: peer,
+        kind: Kind::Plain,
+        tables,
+        standing: Standing::Enabled,
+    })?;
+    add_lines(&mut core.lines, peer, &core.index.shelves, &core.stations)
+}

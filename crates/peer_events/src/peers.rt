@@ -1,0 +1,71 @@
+ghost use Rattle.std.specs.Prelude.{◌≡◌, IfOk};
+ghost use Rattle.rep_types.specs.declared.event.Event.TheVariants as event;
+ghost use Rattle.rep_types.specs.declared.state.Kind.TheVariants as kind;
+ghost use Rattle.rep_model.specs.State.{of, other};
+ghost use Rattle.rep_model.specs.declared.machine.Machine.{Machine};
+ghost use Rattle.cluster_core.specs.Memory.{map_of};
+ghost use Rattle.cluster_core.specs.Stands.{Stands};
+ghost use Rattle.cluster_core.specs.Does.{Standing, Reached, Answers, Counts, FaultTold};
+ghost use Rattle.peer_events.specs.Refusals.{peer_refusal};
+
+use crate::additions::add;
+use crate::records::peer_record;
+use crate::tables::{lack_families, lack_tables};
+use cluster_core::{ClusterCore, CoreError, Stored, find_peer, put_records};
+use region_meta::RegionMap;
+use rep_types::{Call, Names, PeerId, Refusal, Reply};
+use rep_vault::Vault;
+use std::alloc::Global;
+
+// Why the peer isn't added.
+fn refusal(core: &ClusterCore, beside: &RegionMap, peer: PeerId, tables: &Names) -> Option<Refusal>
+    ensures { result ≡ peer_refusal peer tables.now core.now.peers core.now.map beside.now }
+{
+    if find_peer(&core.peers, peer).is_some() {
+        return Some(Refusal::Exists);
+    }
+    if lack_tables(&core.map, beside, tables) {
+        return Some(Refusal::NoTable);
+    }
+    if lack_families(&core.map, beside, tables) {
+        return Some(Refusal::NoFamily);
+    }
+    None
+}
+
+/// Adds a peer that is enabled and keeps no order, with a queue for each server that lives or isn't sealed. It starts behind
+/// the present commits. Its tables stand in both clusters: `beside` is the other one's map.
+pub fn peer<V: Vault>(
+    core: &mut ClusterCore,
+    alloc: Global,
+    own: &mut V,
+    beside: &RegionMap,
+    peer: PeerId,
+    tables: Names,
+) -> Result<Reply, CoreError>
+    requires { Standing core.old.own (V.contents own.old) core.old }
+    ensures does { (m : Machine) → Reached m → Stands core.old.own (V.contents own.old) core.old (of core.old.own m) → beside.now ≡ map_of (of (other core.old.own) m)
+        → Answers core.old.own (event.Peer core.old.own peer kind.Plain tables) m (V.contents own.old) core.old (V.contents own.new) core.new result }
+    ensures counts { Counts (V.tally own.old) (V.tally own.new) }
+    ensures told { IfOk result (λ reply. FaultTold core.old.own reply (V.tally own.old) (V.tally own.new)) }
+{
+    match refusal(core, beside, peer, &tables) {
+        Some(why) => return Ok(Reply::Refused(why)),
+        None => {}
+    }
+    let Ok(change) = peer_record(alloc, peer, &tables) else {
+        return Err(CoreError::Memory { changed: false });
+    };
+    match put_records(own, &[change]) {
+        Stored::Done => match add(core, peer, tables) {
+            Ok(()) => Ok(Reply::Done),
+            Err(_) => Err(CoreError::Memory { changed: true }),
+        },
+        Stored::Fault(count) => Ok(Reply::StoreFault {
+            store: core.own,
+            call: Call::Put,
+            count,
+        }),
+        Stored::NoMemory => Err(CoreError::Memory { changed: false }),
+    }
+}
