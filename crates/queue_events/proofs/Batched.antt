@@ -1,8 +1,7 @@
 -- The batch in memory is what memory keeps of the state's batch.
-use Rattle.std.proofs.Common.{ℕ, zero, suc, ◌-◌, ◌≤◌, ◌<◌, ◌≡◌, ◌&&◌, Bool, true, false, cond, List, [], ◌∷◌, ◌++◌, drop, take, refl, ap, sym, ◌∙◌, append_assoc, append-nil}
+use Rattle.std.proofs.Common.{ℕ, zero, suc, ◌-◌, ◌≡◌, ◌&&◌, Bool, true, false, cond, List, [], ◌∷◌, ◌++◌, drop, take, refl, ap, sym, ◌∙◌, append_assoc, append-nil}
 use Rattle.std.specs.Prelude.{nat_le}
-use Rattle.std.proofs.lemmas.Bool.{cond_both, false≢true}
-use Rattle.rep_types.specs.declared.state.Kind.{Kind}
+use Rattle.std.proofs.lemmas.Bool.{false≢true}
 use Rattle.rep_types.specs.declared.state.Kind.TheVariants.{Plain}
 use Rattle.wal_entry.specs.Length.{frame_length}
 use Rattle.rep_model.specs.Queues.{is_admitted, taken}

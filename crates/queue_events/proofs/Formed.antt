@@ -1,5 +1,5 @@
 -- The forms of a batch in memory are those of the state's batch.
-use Rattle.std.proofs.Common.{ℕ, ◌+◌, ◌≤◌, ◌≡◌, ◌&&◌, not, true, false, cond, List, [], ◌∷◌, map, find, min, Option, Some, None, option_map, refl, ap, sym, ◌∙◌, arith}
+use Rattle.std.proofs.Common.{ℕ, ◌+◌, ◌≤◌, ◌≡◌, ◌&&◌, not, List, [], ◌∷◌, map, find, Option, Some, None, option_map, refl, ap, ◌∙◌, arith}
 use Rattle.std.specs.Prelude.{if◌then◌else◌}
 use Rattle.std.specs.List.{AllByRecursion}
 use Rattle.std.proofs.Math.Nat.{min-eq_left}
@@ -19,7 +19,6 @@ use Rattle.rep_model.specs.declared.machine.Form.{Form}
 use Rattle.rep_model.specs.declared.machine.Hosted.{Hosted}
 use Rattle.rep_model.specs.declared.machine.Region.{Region}
 use Rattle.rep_model.specs.declared.machine.Side.{Side}
-use Rattle.rep_model.specs.declared.machine.Table.{Table}
 use Rattle.cluster_core.specs.Entries.{entry_of}
 use Rattle.cluster_core.specs.Memory.{map_of, map_region, map_table}
 use Rattle.cluster_core.proofs.Lookups.{region_of_map, table_of_map}

@@ -1,15 +1,15 @@
 -- Where the frames of commits stand in the files of logs.
-use Rattle.std.proofs.Common.{ℕ, ◌+◌, ◌<◌, ◌≤◌, ◌≡◌, ◌==◌, ◌&&◌, inl, inr, Bool, true, false, List, [], ◌∷◌, ◌++◌, map, filter, drop, take, length, Option, Some, refl, ap, sym, ◌∙◌, subst, arith, eq-eqb, append_assoc}
+use Rattle.std.proofs.Common.{ℕ, ◌≤◌, ◌≡◌, ◌==◌, ◌&&◌, inl, inr, Bool, true, false, List, [], ◌∷◌, ◌++◌, map, drop, take, length, Some, refl, ap, sym, ◌∙◌, subst, arith, append_assoc}
+use Rattle.std.specs.Prelude.{All}
 use Rattle.std.specs.List.{AllByRecursion}
 use Rattle.std.proofs.lemmas.Bool.{cond-true, cases_lt}
 use Rattle.std.proofs.lemmas.Option.{same_Some}
-use Rattle.std.proofs.lemmas.List.Elements.{filter-append}
+use Rattle.std.proofs.lemmas.List.Elements.{filter-append, All-nil, All-cons}
 use Rattle.std.proofs.Math.Seq.{drop-append_seam, take-append_seam}
 use Rattle.rep_types.specs.declared.entry.Entry.{Entry}
 use Rattle.rep_vault.specs.Contents.{File, Contents}
 use Rattle.rep_vault.specs.Calls.{part}
 use Rattle.wal_entry.specs.Framed.{HasFrame}
-use Rattle.wal_entry.specs.Length.{frame_length}
 use Rattle.wal_entry.specs.Spelling.{spelling}
 use Rattle.wal_entry.proofs.Verdicts.{length-spelling, spellings_apart}
 use Rattle.wal_roll.specs.Log.{wal, log_name, frames}
@@ -117,7 +117,7 @@ one_list c s (k ∷ ks) [] fs a b = absurd a
 one_list c s (k ∷ ks) (e ∷ es) [] a b = absurd b
 one_list c s (k ∷ ks) (e ∷ es) (f ∷ fs) a b = (λ i. one_there c s k e f a.0 b.0 i ∷ one_list c s ks es fs a.1 b.1 i)
 
-pub have_frames : (c : Contents) (s : ℕ) (ks : List Kept) (es : List Entry) → AreFramesAt c s ks es → AllByRecursion (HasFrameAt c s) ks
-have_frames c s [] es a = tt
+pub have_frames : (c : Contents) (s : ℕ) (ks : List Kept) (es : List Entry) → AreFramesAt c s ks es → All (HasFrameAt c s) ks
+have_frames c s [] es a = All-nil (HasFrameAt c s)
 have_frames c s (k ∷ ks) [] a = absurd a
-have_frames c s (k ∷ ks) (e ∷ es) a = ((e, a.0), have_frames c s ks es a.1)
+have_frames c s (k ∷ ks) (e ∷ es) a = All-cons (HasFrameAt c s) k ks (e, a.0) (have_frames c s ks es a.1)

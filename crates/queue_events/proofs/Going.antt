@@ -10,7 +10,7 @@ use Rattle.rep_types.specs.declared.reply.Reply.TheVariants as reply
 use Rattle.rep_types.specs.declared.state.Call.TheVariants as call
 use Rattle.rep_vault.specs.Contents.{Contents}
 use Rattle.rep_model.specs.Keyed.{replace}
-use Rattle.rep_model.specs.State.{of, with, other, is_queue, queue_of}
+use Rattle.rep_model.specs.State.{of, with, is_queue, queue_of}
 use Rattle.rep_model.specs.Queues.{batch}
 use Rattle.rep_model.specs.QueueEvents.{flown, new_flight, next_flight, flight_forms}
 use Rattle.rep_model.specs.Row.{answers, first}
@@ -18,8 +18,6 @@ use Rattle.rep_model.specs.Rows.{row}
 use Rattle.rep_model.specs.declared.machine.Machine.{Machine}
 use Rattle.rep_model.specs.declared.machine.Side.{Side}
 use Rattle.rep_model.specs.declared.machine.Flight.{Flight}
-use Rattle.rep_model.specs.declared.machine.Peer.{Peer}
-use Rattle.rep_model.specs.declared.machine.Queue.{Queue}
 use Rattle.cluster_core.specs.declared.parts.ClusterCore.{ClusterCore}
 use Rattle.cluster_core.specs.declared.parts.Line.{Line}
 use Rattle.cluster_core.specs.declared.parts.PeerLine.{PeerLine}
@@ -81,3 +79,15 @@ module _ (own : Cluster) (c : Contents) (core : ClusterCore) (m : Machine) (reac
       flies_as own _ m left c (record core { lines = lines }) (fs ++ made ∷ []) said
       (send_sent own p s n number made.entries (length made.forms) m x.0 w.0 w.1 (state_opens own c core m reached k p s opens) x.1 w.2 ∙ (λ i. answers (due i) (goes i)))
       there (beside_both own side (m.flights ++ f ∷ []) m k.paired) out
+
+  -- the same, as the calls tell it
+  pub sent_answer : LogsKept own m → (n number count : ℕ) (es : List Entry) (whose : PeerLine) (made : Sent) (fs fs' : List Sent) (lines : List Line) (c' : Contents) → 1 ≤ n → AreFramesAt c s (kept_batch p s n core) es → added p core.peers ≡ Some whose → fs ≡ map sent_of m.flights → number ≡ length fs + 1
+      → MatchOption (find (is_line p s) core.lines) (lines ≡ core.lines) (λ (r : Line). lines ≡ replace (is_line p s) (flies (Some number) r) core.lines)
+      → made ≡ sent_with whose p s es core → count ≡ length made.forms → fs' ≡ fs ++ made ∷ [] → c' ≡ c
+      → Flies own (row (event.Send own p s n) (reply.Sent number made.entries count) m) m c' (record core { lines = lines }) fs' (reply.Sent number made.entries count)
+  sent_answer kept n number count es whose made fs fs' lines c' some frames e flights number_is changed is count_is pushed same =
+      subst (λ w. Flies own (row (event.Send own p s n) (reply.Sent number made.entries w) m) m c' (record core { lines = lines }) fs' (reply.Sent number made.entries w)) (sym count_is)
+      (subst (λ (w : List Sent). Flies own (row (event.Send own p s n) (reply.Sent number made.entries (length made.forms)) m) m c' (record core { lines = lines }) w (reply.Sent number made.entries (length made.forms))) (sym pushed)
+      (subst (λ (w : Contents). Flies own (row (event.Send own p s n) (reply.Sent number made.entries (length made.forms)) m) m w (record core { lines = lines }) (fs ++ made ∷ []) (reply.Sent number made.entries (length made.forms))) (sym same)
+      (subst (λ (f : Sent). Flies own (row (event.Send own p s n) (reply.Sent number f.entries (length f.forms)) m) m c (record core { lines = lines }) (fs ++ f ∷ []) (reply.Sent number f.entries (length f.forms))) (sym is)
+      (sent_flies kept n number es whose fs lines some frames e flights number_is changed))))

@@ -1,7 +1,7 @@
 -- What stands against sending of a queue in memory is what stands against it in the state.
-use Rattle.std.proofs.Common.{ℕ, ◌-◌, ◌<◌, ◌≤◌, ◌≡◌, ◌==◌, inl, inr, not, Bool, true, false, cond, List, [], ◌∷◌, find, drop, length, Option, Some, None, option_map, is_some, is_none, refl, ap, sym, ◌∙◌, subst, eqb-true, arith}
+use Rattle.std.proofs.Common.{ℕ, ◌-◌, ◌<◌, ◌≤◌, ◌≡◌, inl, inr, not, Bool, true, false, List, [], ◌∷◌, find, drop, length, Option, Some, None, option_map, is_some, is_none, refl, ap, sym, ◌∙◌, subst, eqb-true, arith}
 use Rattle.std.specs.Prelude.{nat_le}
-use Rattle.std.proofs.lemmas.Bool.{false≢true, true≢false, and_parts}
+use Rattle.std.proofs.lemmas.Bool.{true≢false, and_parts}
 use Rattle.std.proofs.lemmas.Bool.Decides.{leb_tells}
 use Rattle.std.proofs.lemmas.List.{length-drop}
 use Rattle.std.proofs.Math.ListN.{drop_of_length-le}
@@ -27,7 +27,6 @@ use Rattle.rep_laws.proofs.CitedMore.{queue_server_stands}
 use Rattle.cluster_core.specs.declared.parts.ClusterCore.{ClusterCore}
 use Rattle.cluster_core.specs.declared.parts.Line.{Line}
 use Rattle.cluster_core.specs.declared.parts.PeerLine.{PeerLine}
-use Rattle.cluster_core.specs.declared.parts.Station.{Station}
 use Rattle.cluster_core.specs.Entries.{server_commits}
 use Rattle.cluster_core.specs.Memory.{peer_line, queue_of_line, IsAt}
 use Rattle.cluster_core.specs.Stands.{Stands}

@@ -1,26 +1,21 @@
 -- A batch that goes out, and what memory and the store stand for after it.
-use Rattle.std.proofs.Common.{ℕ, zero, suc, ◌+◌, ◌≤◌, ◌≡◌, ◌==◌, Bool, true, false, List, [], ◌∷◌, ◌++◌, map, find, filter, drop, take, length, Option, Some, None, option_map, refl, ap, sym, ◌∙◌, subst, arith, eqb-true, MatchOption, append_assoc}
-use Rattle.std.specs.Prelude.{nat_le}
+use Rattle.std.proofs.Common.{ℕ, ◌≡◌, true, List, [], ◌∷◌, find, Option, Some, None, refl, ap, sym, ◌∙◌}
 use Rattle.std.specs.List.{AllByRecursion}
-use Rattle.std.proofs.lemmas.List.{take-append-drop, length-map, map-append}
-use Rattle.std.proofs.lemmas.Option.{same_Some}
 use Rattle.rep_types.specs.declared.ids.Cluster.{Cluster}
 use Rattle.rep_types.specs.declared.ids.Cluster.TheVariants.{A, B, C}
-use Rattle.rep_types.specs.declared.entry.Entry.{Entry}
 use Rattle.rep_types.specs.declared.event.Event.TheVariants as event
 use Rattle.rep_types.specs.declared.refusal.Refusal.{Refusal}
 use Rattle.rep_types.specs.declared.reply.Reply.{Reply}
 use Rattle.rep_types.specs.declared.reply.Reply.TheVariants as reply
 use Rattle.rep_types.specs.declared.state.Call.TheVariants as call
-use Rattle.rep_types.specs.declared.state.Kind.TheVariants.{Plain}
 use Rattle.rep_vault.specs.Contents.{Contents}
 use Rattle.rep_model.specs.Keyed.{given, replace}
-use Rattle.rep_model.specs.State.{of, with, other, is_server, is_peer, is_queue, queue_of, server_of}
+use Rattle.rep_model.specs.State.{of, with, other, is_queue}
 use Rattle.rep_model.specs.Words.{is_paired}
-use Rattle.rep_model.specs.Peers.{peer_of, is_synchronous}
-use Rattle.rep_model.specs.Queues.{queue, batch, taken}
-use Rattle.rep_model.specs.QueueEvents.{flown, new_flight, next_flight, flight_forms, held_refusal, sent, send_batch, send_refusals, send_row}
-use Rattle.rep_model.specs.Row.{Row, answers, first, unless, or_fault, fault_among, site}
+use Rattle.rep_model.specs.Peers.{peer_of}
+use Rattle.rep_model.specs.Queues.{batch}
+use Rattle.rep_model.specs.QueueEvents.{flown, new_flight, next_flight, held_refusal, sent, send_batch, send_refusals, send_row}
+use Rattle.rep_model.specs.Row.{answers, first, unless, or_fault}
 use Rattle.rep_model.specs.Rows.{row}
 use Rattle.rep_model.specs.declared.faults.Site.{Site}
 use Rattle.rep_model.specs.declared.machine.Machine.{Machine}
@@ -29,22 +24,18 @@ use Rattle.rep_model.specs.declared.machine.Commit.{Commit}
 use Rattle.rep_model.specs.declared.machine.Flight.{Flight}
 use Rattle.rep_model.specs.declared.machine.Peer.{Peer}
 use Rattle.rep_model.specs.declared.machine.Queue.{Queue}
-use Rattle.rep_model.specs.declared.machine.Server.{Server}
 use Rattle.rep_laws.proofs.Finding.{All_replaced}
 use Rattle.rep_laws.proofs.Lists.{All_found}
 use Rattle.rep_laws.proofs.Sides.{of_with, of_flights}
 use Rattle.cluster_core.specs.declared.parts.ClusterCore.{ClusterCore}
 use Rattle.cluster_core.specs.declared.parts.Line.{Line}
-use Rattle.cluster_core.specs.declared.parts.PeerLine.{PeerLine}
-use Rattle.cluster_core.specs.declared.parts.Sent.{Sent}
-use Rattle.cluster_core.specs.Memory.{peer_line, queue_of_line, IsAt}
+use Rattle.cluster_core.specs.Memory.{queue_of_line, IsAt}
 use Rattle.cluster_core.specs.Stands.{QueuesStand, Stands}
-use Rattle.cluster_core.specs.Does.{sent_of, Flies}
 use Rattle.cluster_core.specs.Lookups.{is_line}
 use Rattle.cluster_core.specs.Lines.{flies}
 use Rattle.cluster_core.proofs.Answering.{refused, let_through, faulted_one}
 use Rattle.cluster_core.proofs.Queued.{requeued, stands_requeued, map_replace, line_numbers}
-use Rattle.queue_events.proofs.Confirmed.{flies_as, other_with}
+use Rattle.queue_events.proofs.Confirmed.{other_with}
 
 -- ---- the row
 

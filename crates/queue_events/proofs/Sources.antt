@@ -1,13 +1,12 @@
 -- The batch of a queue: where its frames stand, and the flight that its entries become.
-use Rattle.std.proofs.Common.{ℕ, zero, suc, ◌+◌, ◌≤◌, ◌≡◌, ◌==◌, not, Bool, true, false, List, [], ◌∷◌, ◌++◌, map, find, filter, drop, take, length, Option, Some, None, option_map, is_none, refl, ap, sym, ◌∙◌, subst, arith, eqb-true}
-use Rattle.std.specs.Prelude.{nat_le}
+use Rattle.std.proofs.Common.{ℕ, zero, suc, ◌≤◌, ◌≡◌, ◌==◌, not, true, false, List, [], ◌∷◌, ◌++◌, map, find, drop, take, length, Option, Some, None, option_map, is_none, refl, ap, sym, ◌∙◌, subst, arith, eqb-true}
+use Rattle.std.specs.Prelude.{All}
 use Rattle.std.specs.List.{AllByRecursion}
 use Rattle.std.proofs.lemmas.List.{take-append-drop, length-map}
-use Rattle.std.proofs.lemmas.Option.{same_Some}
-use Rattle.std.proofs.lemmas.Bool.{true≢false, le-leb}
+use Rattle.std.proofs.lemmas.Option.{same_Some, none-some}
+use Rattle.std.proofs.lemmas.Bool.{cond_both, true≢false, le-leb}
 use Rattle.rep_types.specs.declared.ids.Cluster.{Cluster}
 use Rattle.rep_types.specs.declared.entry.Entry.{Entry}
-use Rattle.rep_types.specs.declared.state.Kind.{Kind}
 use Rattle.rep_types.specs.declared.state.Kind.TheVariants.{Plain}
 use Rattle.rep_vault.specs.Contents.{Contents}
 use Rattle.wal_entry.specs.Framed.{HasFrame}
@@ -16,20 +15,20 @@ use Rattle.rep_model.specs.Keyed.{given, if_some}
 use Rattle.rep_model.specs.State.{of, other, is_server, is_peer, is_region, queue_of, server_of}
 use Rattle.rep_model.specs.Places.{is_named}
 use Rattle.rep_model.specs.Words.{is_paired}
-use Rattle.rep_model.specs.Peers.{peer_of, is_synchronous}
+use Rattle.rep_model.specs.Peers.{is_removed, peer_of, is_synchronous}
 use Rattle.rep_model.specs.Queues.{queue, batch, taken}
 use Rattle.rep_model.specs.Forms.{forms}
-use Rattle.rep_model.specs.QueueEvents.{is_empty, new_flight, next_flight, flight_forms, send_refusals}
+use Rattle.rep_model.specs.QueueEvents.{is_empty, new_flight, next_flight, send_refusals}
 use Rattle.rep_model.specs.Row.{first}
 use Rattle.rep_model.specs.declared.machine.Machine.{Machine}
 use Rattle.rep_model.specs.declared.machine.Commit.{Commit}
-use Rattle.rep_model.specs.declared.machine.Flight.{Flight}
 use Rattle.rep_model.specs.declared.machine.Hosted.{Hosted}
 use Rattle.rep_model.specs.declared.machine.Region.{Region}
 use Rattle.rep_model.specs.declared.machine.Peer.{Peer}
 use Rattle.rep_model.specs.declared.machine.Queue.{Queue}
 use Rattle.rep_model.specs.declared.machine.Server.{Server}
-use Rattle.rep_laws.proofs.Lists.{In, in_all, in_left, all_in, All_weaker, All_both, All_left, All_passing, All_dropped, All_found, found_in, found_passes}
+use Rattle.rep_laws.proofs.Lists.{In, in_all, all_in, All_weaker, All_both, All_left, All_passing, All_dropped, All_found, found_in, found_passes}
+use Rattle.rep_laws.proofs.CitedLogs.{queues_are_kept}
 use Rattle.rep_laws.proofs.CitedMore.{commits_are_in_logs, regions_are_known, hosted_table_is_found, frame_fits}
 use Rattle.cluster_core.specs.declared.parts.ClusterCore.{ClusterCore}
 use Rattle.cluster_core.specs.declared.parts.Kept.{Kept}
@@ -45,6 +44,7 @@ use Rattle.cluster_core.specs.Does.{Reached, sent_of}
 use Rattle.cluster_core.specs.Lookups.{is_line, is_peer_line}
 use Rattle.cluster_core.specs.Lines.{added, is_shelf}
 use Rattle.cluster_core.proofs.Finds.{find_map}
+use Rattle.cluster_core.proofs.QueueLookups.{added_one}
 use Rattle.cluster_core.proofs.Shelving.{shelf_found}
 use Rattle.queue_events.specs.Sending.{send_bars, taken_kept, kept_batch, entry_forms, sent_with}
 use Rattle.queue_events.specs.Reading.{HasFrameAt, AreFramesAt}
@@ -57,6 +57,21 @@ use Rattle.queue_events.proofs.Formed.{Known, forms_are}
 -- the logs of what a peer has to send weren't swept
 abbrev pub LogsKept : Cluster → Machine → Type 0
 LogsKept own m = (p s : ℕ) (x : Peer) (v : Server) → peer_of own p m ≡ Some x → server_of own s m ≡ Some v → (y : Commit) → In y (queue x s (of own m).commits) → v.lowest ≤ y.log
+
+abbrev KeptIn : Cluster → Machine → Type 0
+KeptIn own m = (x : Peer) → In x (of own m).peers → is_removed x.standing ≡ false → (v : Server) → In v (of own m).servers → (y : Commit) → In y (queue x v.number (of own m).commits) → v.lowest ≤ y.log
+
+stays : (o : Option Peer) (x : Peer) → added_one o ≡ Some x → is_removed x.standing ≡ false
+unfolding given
+stays None x e = absurd (none-some x e)
+stays (Some y) x e = cond_both (is_removed y.standing) None (Some y) (λ w. w ≡ Some x → is_removed x.standing ≡ false) (λ _ h. absurd (none-some x h)) (λ b h. ap (λ (z : Peer). is_removed z.standing) (sym (same_Some y x h)) ∙ b) e
+
+pub logs_kept : (own : Cluster) → is_paired own ≡ true → (m : Machine) → Reached m → LogsKept own m
+logs_kept own pair m r p s x v e f y i =
+    let law : KeptIn own m = subst (KeptIn own) r.2 (queues_are_kept r.0 r.1 own pair) in
+    let peer : In x (of own m).peers = found_in (is_peer p) (of own m).peers x (added_found (find (is_peer p) (of own m).peers) x e) in
+    let number : v.number ≡ s = eqb-true v.number s (found_passes (is_server s) (of own m).servers v f) in
+    law x peer (stays (find (is_peer p) (of own m).peers) x e) v (found_in (is_server s) (of own m).servers v f) y (subst (λ n. In y (queue x n (of own m).commits)) (sym number) i)
 
 -- ---- facts of commits
 
@@ -195,6 +210,9 @@ module _ (own : Cluster) (c : Contents) (core : ClusterCore) (m : Machine) (reac
       let split : S ≡ take at S ++ (sent_ones n ++ (front n).0) = sym (take-append-drop at S) ∙ ap (λ (w : List Commit). take at S ++ w) (sym at_line.1 ∙ sym (front n).1) in
       subst (λ (ks : List Kept). AreFramesAt c s ks (map entry_of (sent_ones n))) (sym (batch_is n))
       (frames_at c s (of own m).commits (take at S) (sent_ones n) (front n).0 split (of_front (Stored c s (of own m).commits) n (stored_all kept)))
+
+  pub batch_have : LogsKept own m → (n : ℕ) → All (HasFrameAt c s) (kept_batch p s n core)
+  batch_have kept n = have_frames c s (kept_batch p s n core) (map entry_of (sent_ones n)) (batch_frames kept n)
 
   -- what is read is the batch
   pub read_is : LogsKept own m → (n : ℕ) (es : List Entry) → AreFramesAt c s (kept_batch p s n core) es → es ≡ map entry_of (sent_ones n)

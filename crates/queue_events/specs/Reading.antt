@@ -1,11 +1,11 @@
 -- Entries of a batch as the files of logs have them, and what reading them tells.
-use Rattle.std.specs.Prelude.{ℕ, ◌<◌, ◌≤◌, ◌≡◌, List, [], ◌∷◌, Option, Some, Result, Ok, Err}
+use Rattle.std.specs.Prelude.{ℕ, ◌≤◌, ◌≡◌, List, [], ◌∷◌, Some, Result, Ok, Err}
 use Rattle.rep_types.specs.declared.state.Call.{Call}
 use Rattle.rep_types.specs.declared.state.Call.TheVariants as call
 use Rattle.rep_types.specs.declared.entry.Entry.{Entry}
 use Rattle.rep_vault.specs.Contents.{File, Contents}
 use Rattle.rep_vault.specs.Calls.{part}
-use Rattle.rep_vault.specs.Tallies.{Tally, total}
+use Rattle.rep_vault.specs.Tallies.{Tally}
 use Rattle.wal_entry.specs.Framed.{HasFrame}
 use Rattle.wal_entry.specs.Spelling.{spelling}
 use Rattle.wal_roll.specs.Log.{wal, log_name}

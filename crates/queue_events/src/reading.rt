@@ -73,7 +73,14 @@ fn read_entry<V: Vault>(
 {
     let name = file_name(alloc, server, kept.log)?;
     let mut bytes = Bytes::new(alloc);
-    match try_read(own, FOLDER, name.as_str(), kept.offset, kept.length, &mut bytes) {
+    match try_read(
+        own,
+        FOLDER,
+        name.as_str(),
+        kept.offset,
+        kept.length,
+        &mut bytes,
+    ) {
         Tried::Done => Ok(frame_entry(alloc, bytes.as_slice())?),
         Tried::NotDone => Err(ReadError::StoreFault {
             count: own.faults(),

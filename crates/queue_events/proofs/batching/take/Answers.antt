@@ -1,4 +1,4 @@
-use Rattle.std.proofs.Common.{◌≡◌, ◌<◌, ◌≤◌, ◌-◌, suc, List, arith}
+use Rattle.std.proofs.Common.{◌≡◌, ◌≤◌, ◌-◌, suc, List, arith}
 use Rattle.std.proofs.lemmas.Bool.{le-leb}
 use Rattle.cluster_core.specs.declared.parts.Kept.{Kept}
 use Rattle.queue_events.specs.Sending.{taken_kept}

@@ -1,5 +1,4 @@
 use Rattle.std.proofs.Common.{◌≡◌, [], ap, sym, ◌∙◌, subst, append-nil}
-use Rattle.rep_types.specs.declared.entry.Entry.{Entry}
 use Rattle.wal_entry.specs.Framed.{HasFrame}
 use Rattle.wal_entry.specs.Spelling.{spelling}
 use Rattle.queue_events.proofs.reading.frame_entry.Goals as goal

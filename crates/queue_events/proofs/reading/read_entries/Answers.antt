@@ -1,4 +1,4 @@
-use Rattle.std.proofs.Common.{rules, ◌≡◌, ◌<◌, length, sym, subst, arith}
+use Rattle.std.proofs.Common.{rules, sym, subst, arith}
 use Rattle.rep_vault.specs.Contents.{Contents}
 use Rattle.cluster_core.specs.declared.parts.Kept.{Kept}
 use Rattle.queue_events.specs.Reading.{IsFrameAt, HasFrameAt}
