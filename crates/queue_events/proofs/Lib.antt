@@ -3,6 +3,7 @@ pub mod Confirmed
 pub mod Formed
 pub mod Framing
 pub mod Going
+pub mod Pieces
 pub mod SendBars
 pub mod Sends
 pub mod Sources

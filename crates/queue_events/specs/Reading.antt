@@ -1,5 +1,5 @@
 -- Entries of a batch as the files of logs have them, and what reading them tells.
-use Rattle.std.specs.Prelude.{ℕ, ◌≤◌, ◌≡◌, List, [], ◌∷◌, Some, Result, Ok, Err}
+use Rattle.std.specs.Prelude.{ℕ, ◌+◌, ◌-◌, ◌≤◌, ◌≡◌, List, [], ◌∷◌, Some, Result, Ok, Err}
 use Rattle.rep_types.specs.declared.state.Call.{Call}
 use Rattle.rep_types.specs.declared.state.Call.TheVariants as call
 use Rattle.rep_types.specs.declared.entry.Entry.{Entry}
@@ -11,6 +11,7 @@ use Rattle.wal_entry.specs.Spelling.{spelling}
 use Rattle.wal_roll.specs.Log.{wal, log_name}
 use Rattle.wal_roll.specs.Blamed.{IsFault}
 use Rattle.cluster_core.specs.declared.parts.Kept.{Kept}
+use Rattle.queue_events.specs.declared.reading.Piece.{Piece}
 use Rattle.queue_events.specs.declared.reading.ReadError.{ReadError}
 use Rattle.queue_events.specs.declared.reading.ReadError.TheVariants.{StoreFault, Memory}
 
@@ -30,6 +31,16 @@ AreFramesAt c s [] [] = Unit {0}
 AreFramesAt c s [] (e ∷ es) = ⊥
 AreFramesAt c s (k ∷ ks) [] = ⊥
 AreFramesAt c s (k ∷ ks) (e ∷ es) = IsFrameAt c s k e × AreFramesAt c s ks es
+
+-- a piece of a file has the bytes of the frame
+pub record Covers (p : Piece) (k : Kept) : Type 0 where
+  pub log_is : k.log ≡ p.log
+  pub low : p.from ≤ k.offset
+  pub high : k.offset - p.from + k.length ≤ p.size
+
+-- where the file stands, these are its bytes
+abbrev pub IsPiece : Contents → ℕ → Piece → Type 0
+IsPiece c s p = (file : File) → c.files wal (log_name s p.log) ≡ Some file → p.bytes ≡ part p.from p.size file
 
 -- a fact of the fault that is told
 abbrev pub IfFault : {T : Type 0} → Result T ReadError → (ℕ → Type 0) → Type 0
