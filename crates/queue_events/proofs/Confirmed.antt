@@ -1,6 +1,6 @@
 -- What memory tells of a flight is what the state tells, and recording it is the state's row.
-use Rattle.std.proofs.Common.{ℕ, zero, suc, ◌-◌, ◌≡◌, arith, ◌==◌, not, Bool, true, false, cond, List, [], ◌∷◌, map, find, length, slice_get, Option, Some, None, option_map, is_some, is_none, refl, ap, sym, ◌∙◌, subst, eqb-true, ne_eqb, if◌then◌else◌, MatchOption, IfSome, Ok}
-use Rattle.std.proofs.lemmas.Bool.{cond_both, false≢true, true≢false}
+use Rattle.std.proofs.Common.{ℕ, zero, suc, ◌-◌, ◌≡◌, arith, not, Bool, true, false, List, [], ◌∷◌, map, find, length, slice_get, Option, Some, None, option_map, is_some, refl, ap, sym, ◌∙◌, subst, eqb-true, ne_eqb, if◌then◌else◌, MatchOption, IfSome}
+use Rattle.std.proofs.lemmas.Bool.{cond_both, false≢true}
 use Rattle.std.proofs.lemmas.Option.{none-some, same_Some, slice_get-map}
 use Rattle.rep_types.specs.declared.ids.Cluster.{Cluster}
 use Rattle.rep_types.specs.declared.ids.Cluster.TheVariants.{A, B, C}
@@ -11,12 +11,11 @@ use Rattle.rep_types.specs.declared.reply.Reply.{Reply}
 use Rattle.rep_types.specs.declared.reply.Reply.TheVariants as reply
 use Rattle.rep_vault.specs.Contents.{Contents}
 use Rattle.rep_model.specs.Keyed.{given, if_some, replace}
-use Rattle.rep_model.specs.State.{of, with, other, is_peer, is_queue, is_flight, flight_of, queue_of, server_of}
+use Rattle.rep_model.specs.State.{of, with, other, is_peer, is_queue, is_flight, flight_of, queue_of}
 use Rattle.rep_model.specs.Peers.{is_removed, peer_of}
 use Rattle.rep_model.specs.Row.{Row, answers, first, unless}
 use Rattle.rep_model.specs.Rows.{row}
 use Rattle.rep_model.specs.Words.{is_paired}
-use Rattle.rep_model.specs.Runs.{state_of}
 use Rattle.rep_model.specs.QueueEvents.{is_out, flight_out, owner_of, owner_lives, flight_queue, flown, landed, recorded, confirm_refusals, confirm_row}
 use Rattle.rep_model.specs.declared.machine.Machine.{Machine}
 use Rattle.rep_model.specs.declared.machine.Side.{Side}
@@ -24,19 +23,16 @@ use Rattle.rep_model.specs.declared.machine.Peer.{Peer}
 use Rattle.rep_model.specs.declared.machine.Queue.{Queue}
 use Rattle.rep_model.specs.declared.machine.Flight.{Flight}
 use Rattle.rep_model.specs.declared.machine.Commit.{Commit}
-use Rattle.rep_model.specs.declared.machine.Server.{Server}
 use Rattle.rep_laws.proofs.Lists.{found_passes}
 use Rattle.rep_laws.proofs.Sides.{of_with, flights_with}
 use Rattle.rep_laws.proofs.Fronts.{noted}
 use Rattle.rep_laws.proofs.CitedMore.{flight_is_slot, flight_0_is_none}
 use Rattle.cluster_core.specs.declared.parts.ClusterCore.{ClusterCore}
 use Rattle.cluster_core.specs.declared.parts.Line.{Line}
-use Rattle.cluster_core.specs.declared.parts.PeerLine.{PeerLine}
 use Rattle.cluster_core.specs.declared.parts.Sent.{Sent}
-use Rattle.cluster_core.specs.declared.parts.Station.{Station}
 use Rattle.cluster_core.specs.Memory.{peer_line, queue_of_line}
 use Rattle.cluster_core.specs.Stands.{Stands}
-use Rattle.cluster_core.specs.Does.{Reached, sent_of, Flies, FliesOr}
+use Rattle.cluster_core.specs.Does.{Reached, sent_of, Flies}
 use Rattle.cluster_core.specs.Lookups.{is_line}
 use Rattle.cluster_core.specs.Lines.{added, lives, shelf_length, lands}
 use Rattle.cluster_core.proofs.Answering.{refused, let_through}
