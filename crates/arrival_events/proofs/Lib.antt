@@ -1,0 +1,5 @@
+pub mod Forms
+pub mod Merging
+pub mod Midway
+pub mod Taking
+pub mod Telling

@@ -1,0 +1,4 @@
+pub mod Acks
+pub mod Arriving
+pub mod Behind
+pub mod Delivering
