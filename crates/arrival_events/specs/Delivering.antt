@@ -3,8 +3,6 @@ use Rattle.std.specs.Prelude.{ℕ, suc, ◌<◌, ◌≡◌, Bool, List, length, 
 use Rattle.std.specs.List.{AllByRecursion}
 use Rattle.rep_types.specs.declared.ids.Cluster.{Cluster}
 use Rattle.rep_types.specs.declared.reply.Cause.{Cause}
-use Rattle.rep_types.specs.declared.reply.Reply.{Reply}
-use Rattle.rep_types.specs.declared.reply.Reply.TheVariants as reply
 use Rattle.rep_vault.specs.Contents.{Contents}
 use Rattle.rep_vault.specs.Tallies.{Tally}
 use Rattle.wal_entry.specs.Framed.{HasFrame}
@@ -54,13 +52,6 @@ pub record Delivers (own : Cluster) (peer : ℕ) (synchronous : Bool) (forms : L
 abbrev pub DeliversOr : Cluster → ℕ → Bool → List Form → Machine → Contents → ClusterCore → Contents → ClusterCore → Result Delivered CoreError → Type 0
 DeliversOr own peer synchronous forms m old core new core' (Ok done) = Delivers own peer synchronous forms m new core' done
 DeliversOr own peer synchronous forms m old core new core' (Err (failed.Memory changed)) = changed ≡ Bool.false → (core' ≡ core) × (new ≡ old)
-
-abbrev stop_reply : ℕ → List ℕ → Option Cause → Reply
-stop_reply arrived acks None = reply.All arrived acks
-stop_reply arrived acks (Some why) = reply.Stopped arrived acks why
-
-abbrev pub reply_of : Delivered → Reply
-reply_of done = stop_reply done.arrived done.acks done.stop
 
 abbrev stop_told : Cluster → Option Cause → Tally → Tally → Type 0
 stop_told own None old new = Unit {0}

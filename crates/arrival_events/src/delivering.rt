@@ -8,7 +8,7 @@ ghost use Rattle.cluster_core.specs.declared.parts.Sent.{Sent};
 ghost use Rattle.cluster_core.specs.Stands.{Stands};
 ghost use Rattle.cluster_core.specs.Does.{FaultTold, Counts, FliesOr};
 ghost use Rattle.arrival_events.specs.Arriving.{MayArrive, IsMidway};
-ghost use Rattle.arrival_events.specs.Delivering.{IsSink, DeliversOr, IsPlace, DeliveryTold, reply_of};
+ghost use Rattle.arrival_events.specs.Delivering.{IsSink, DeliversOr, IsPlace, DeliveryTold};
 
 use crate::acks::add_tickets;
 use crate::arriving::{Arrived, arrive};
@@ -65,9 +65,9 @@ fn arrive_all<V: Vault>(
     for form in forms {
         match arrive(core, alloc, own, peer, synchronous, form) {
             Ok(Arrived::Taken(tickets)) => {
-                if add_tickets(&mut acks, tickets.as_slice()).is_err() {
+                let Ok(()) = add_tickets(&mut acks, tickets.as_slice()) else {
                     return Err(CoreError::Memory { changed: true });
-                }
+                };
                 arrived += 1;
             }
             Ok(Arrived::Stopped(cause)) => {
@@ -99,25 +99,6 @@ fn mark(flights: &mut Items<Sent>, at: usize)
     flights.at_mut(at).delivered = true;
 }
 
-// The reply to a delivery.
-fn reply_of(done: Delivered) -> Reply
-    ensures { result ≡ reply_of done }
-{
-    let Delivered {
-        arrived,
-        acks,
-        stop,
-    } = done;
-    match stop {
-        Some(cause) => Reply::Stopped {
-            index: arrived,
-            acks,
-            cause,
-        },
-        None => Reply::All { arrived, acks },
-    }
-}
-
 /// The forms of a flight arrive in order at its destination, each committed before the next, until one is stopped; once all
 /// arrived the flight is marked. The core and the store are the destination's. A failed append or sync stops the delivery,
 /// and leaves the log broken and the form's entry pending.
@@ -138,7 +119,11 @@ pub fn deliver<V: Vault>(
         return Ok(Reply::Refused(Refusal::NoFlight));
     };
     let sent = sent_at(flights, at);
-    let done = arrive_all(
+    let Delivered {
+        arrived,
+        acks,
+        stop,
+    } = arrive_all(
         core,
         alloc,
         own,
@@ -146,8 +131,15 @@ pub fn deliver<V: Vault>(
         sent.synchronous,
         sent.forms.as_slice(),
     )?;
-    if done.stop.is_none() {
-        mark(flights, at);
+    match stop {
+        Some(cause) => Ok(Reply::Stopped {
+            index: arrived,
+            acks,
+            cause,
+        }),
+        None => {
+            mark(flights, at);
+            Ok(Reply::All { arrived, acks })
+        }
     }
-    Ok(reply_of(done))
 }
