@@ -1,7 +1,8 @@
 -- A delivery as the event's row has it.
-use Rattle.std.proofs.Common.{ℕ, zero, suc, ◌+◌, ◌-◌, ◌<◌, ◌≤◌, ◌≡◌, ◌==◌, Bool, true, false, cond, List, [], ◌∷◌, map, find, length, slice_get, set, Option, Some, None, option_map, is_none, refl, ap, sym, ◌∙◌, subst, arith, eq-eqb, eqb-true, ne_eqb, IfSome}
+use Rattle.std.proofs.Common.{ℕ, zero, suc, ◌+◌, ◌-◌, ◌<◌, ◌≤◌, ◌≡◌, ◌==◌, Bool, true, false, cond, List, [], ◌∷◌, map, find, length, slice_get, set, Option, Some, None, Result, Err, option_map, is_none, refl, ap, sym, ◌∙◌, subst, arith, eq-eqb, eqb-true, ne_eqb, IfSome}
 use Rattle.std.specs.List.{AllByRecursion}
 use Rattle.std.proofs.lemmas.Bool.{cond-true, cond-false}
+use Rattle.std.proofs.lemmas.List.{map-set}
 use Rattle.std.proofs.lemmas.Option.{none-some, same_Some, slice_get-map}
 use Rattle.rep_types.specs.declared.ids.Cluster.{Cluster}
 use Rattle.rep_types.specs.declared.event.Event.TheVariants as event
@@ -25,16 +26,18 @@ use Rattle.rep_model.specs.declared.machine.Machine.{Machine}
 use Rattle.rep_laws.proofs.Cited.{flights_are_commits}
 use Rattle.rep_laws.proofs.CitedMore.{flight_is_slot, flight_0_is_none}
 use Rattle.rep_laws.proofs.Lists.{In, in_all, found_in, found_passes, All_weaker}
-use Rattle.rep_laws.proofs.Numbering.{Numbered}
+use Rattle.rep_laws.proofs.Numbering.{Numbered, length_mapped}
 use Rattle.rep_laws.proofs.Sides.{twice, of_flights}
 use Rattle.cluster_core.specs.declared.parts.ClusterCore.{ClusterCore}
+use Rattle.cluster_core.specs.declared.parts.CoreError.{CoreError}
+use Rattle.cluster_core.specs.declared.parts.CoreError.TheVariants as failed
 use Rattle.cluster_core.specs.declared.parts.Sent.{Sent}
-use Rattle.cluster_core.specs.Does.{Reached, sent_of, Flies}
+use Rattle.cluster_core.specs.Does.{Reached, sent_of, Flies, FliesOr}
 use Rattle.cluster_core.specs.Entries.{entry_of}
 use Rattle.cluster_core.specs.Stands.{Stands}
 use Rattle.cluster_core.proofs.Answering.{refused}
 use Rattle.arrival_events.specs.Arriving.{MayArrive}
-use Rattle.arrival_events.specs.Delivering.{IsFor, IsSink, IsPlace, Delivers}
+use Rattle.arrival_events.specs.Delivering.{IsSink, IsPlace, Delivers, DeliversOr}
 use Rattle.arrival_events.proofs.Forms.{forms_may}
 use Rattle.arrival_events.proofs.Midway.{midway_first}
 
@@ -52,15 +55,6 @@ replace_slot f n (x ∷ xs) (suc k) y a h =
     let less : k < length xs = omega arith in
     cond-false (f x == n + suc k) (y ∷ xs) (x ∷ replace (λ z. f z == n + suc k) y xs) (ne_eqb (f x) (n + suc k) (λ g. past n k (f x) a.0 g))
     ∙ ap (λ zs. x ∷ zs) (ap (λ j. replace (λ z. f z == j) y xs) e ∙ replace_slot f (suc n) xs k y a.1 less)
-
-map_set : {X Y : Type 0} (f : X → Y) (xs : List X) (k : ℕ) (y : X) → map f (set xs k y) ≡ set (map f xs) k (f y)
-map_set f [] k y = refl
-map_set f (x ∷ xs) zero y = refl
-map_set f (x ∷ xs) (suc k) y = ap (λ zs. f x ∷ zs) (map_set f xs k y)
-
-long_map : {X Y : Type 0} (f : X → Y) (xs : List X) → length (map f xs) ≡ length xs
-long_map f [] = refl
-long_map f (x ∷ xs) = ap suc (long_map f xs)
 
 -- a flight of memory's is one of the state's
 mapped : (o : Option Flight) (s : Sent) → option_map sent_of o ≡ Some s → (f : Flight) × (o ≡ Some f) × (s ≡ sent_of f)
@@ -131,14 +125,14 @@ module _ (own : Cluster) (c : Contents) (core : ClusterCore) (fs : List Sent) (k
     unfolding given
     marked left at same number less =
         let g : Flight = record f { delivered = true } in
-        let within : at < length m.flights = subst (λ n. at < n) (ap length sink.flights_are ∙ long_map sent_of m.flights) less in
+        let within : at < length m.flights = subst (λ n. at < n) (ap length sink.flights_are ∙ length_mapped sent_of m.flights) less in
         let numbered : Numbered 1 (map (λ (x : Flight). x.number) m.flights) = (midway_first own pair m sink.reached).steady.flights in
         let next : suc at ≡ 1 + at = omega arith in
         let placed : replace (is_flight k) g m.flights ≡ set m.flights at g = ap (λ n. replace (is_flight n) g m.flights) (number ∙ next) ∙ replace_slot (λ (x : Flight). x.number) 1 m.flights at g numbered within in
         let now : (with_delivered k left).flights ≡ replace (is_flight k) g m.flights =
         ap (λ (gs : List Flight). given (find (is_flight k) gs) gs (λ x. replace (is_flight k) (record x { delivered = true }) gs)) same
         ∙ ap (λ (o : Option Flight). given o m.flights (λ x. replace (is_flight k) (record x { delivered = true }) m.flights)) there in
-        ap (λ gs. set gs at (sent_of g)) sink.flights_are ∙ (sym (map_set sent_of m.flights at g) ∙ ap (map sent_of) (sym (now ∙ placed)))
+        ap (λ gs. set gs at (sent_of g)) sink.flights_are ∙ (sym (map-set sent_of m.flights at g) ∙ ap (map sent_of) (sym (now ∙ placed)))
 
     -- all forms arrived
     pub all_fly : (new : Contents) (w : ClusterCore) (at arrived : ℕ) (told : List ℕ) (gs : List Sent) → k ≡ suc at → at < length fs → gs ≡ set fs at (record (sent_of f) { delivered = true })
@@ -151,3 +145,8 @@ module _ (own : Cluster) (c : Contents) (core : ClusterCore) (fs : List Sent) (k
           beside = of_flights (other own) (with_delivered k d.left).flights d.left ∙ d.beside;
           flights_are = is ∙ marked d.left at d.flights number less;
         })
+
+-- where memory ran out
+pub unfinished : (own : Cluster) (k : ℕ) (peer : ℕ) (synchronous : Bool) (forms : List Form) (m : Machine) (old : Contents) (core : ClusterCore) (fs : List Sent) (new : Contents) (w : ClusterCore) (e : CoreError) (r : Result Reply CoreError) → r ≡ Err e
+    → DeliversOr own peer synchronous forms m old core new w (Err e) → FliesOr own (event.Deliver k) m old core fs new w fs r
+unfinished own k peer synchronous forms m old core fs new w (failed.Memory changed) r is d = subst (λ (x : Result Reply CoreError). FliesOr own (event.Deliver k) m old core fs new w fs x) (sym is) (λ h. (let q = d h in (q.0, q.1, refl)))
