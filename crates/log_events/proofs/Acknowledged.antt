@@ -55,7 +55,7 @@ no_less : (b : ℕ) → b - b ≡ zero
 no_less b = omega arith
 
 -- the first stays where all tickets have greater numbers
-pub tell_behind : (b k : ℕ) (t : Ticket) (ts : List Ticket) → suc b ≤ k → tell_from b k (t ∷ ts) ≡ t ∷ tell_from (suc b) k ts
+tell_behind : (b k : ℕ) (t : Ticket) (ts : List Ticket) → suc b ≤ k → tell_from b k (t ∷ ts) ≡ t ∷ tell_from (suc b) k ts
 unfolding given
 tell_behind b k t ts h = ap (λ n. given (slice_get (t ∷ ts) n) (t ∷ ts) (λ u. set (t ∷ ts) n (record u { told = unless_told told.Plain u.told }))) (later b k h) ∙ by_found (slice_get ts (k - suc b))
   where
