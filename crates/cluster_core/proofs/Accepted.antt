@@ -1,5 +1,5 @@
 -- An entry was accepted by a host: it is the last pending one of its server, and the log is whole or broken.
-use Rattle.std.proofs.Common.{ℕ, ◌+◌, ◌-◌, ◌<◌, ◌≡◌, ◌≢◌, ◌==◌, ◌^◌, inl, inr, not, Bool, true, false, cond, List, [], ◌∷◌, ◌++◌, map, find, set, slice_get, Option, Some, None, refl, ap, sym, ◌∙◌, subst, arith, eq-eqb, ne_eqb, eqb-true, append_assoc, append-nil}
+use Rattle.std.proofs.Common.{ℕ, ◌+◌, ◌-◌, ◌<◌, ◌≡◌, ◌≢◌, ◌==◌, ◌^◌, inl, inr, not, Bool, true, false, cond, List, [], ◌∷◌, ◌++◌, map, find, position, set, slice_get, Option, Some, None, refl, ap, sym, ◌∙◌, subst, arith, eq-eqb, ne_eqb, eqb-true, append_assoc, append-nil}
 use Rattle.std.specs.List.{AllByRecursion}
 use Rattle.std.proofs.lemmas.Bool.{cases_eq}
 use Rattle.std.proofs.lemmas.List.{map-append}
@@ -19,7 +19,7 @@ use Rattle.rep_model.specs.declared.machine.Side.{Side}
 use Rattle.rep_model.specs.declared.machine.Server.{Server}
 use Rattle.rep_model.specs.declared.machine.Commit.{Commit}
 use Rattle.rep_model.specs.declared.machine.Pending.{Pending}
-use Rattle.rep_model.proofs.Replacing.{replace-at}
+use Rattle.rep_model.proofs.Replacing.{find-at, replace-at}
 use Rattle.rep_laws.proofs.Lists.{All_weaker, All_append}
 use Rattle.rep_laws.proofs.Finding.{find_replaced, find_elsewhere}
 use Rattle.rep_laws.proofs.Synced.{map_replaced}
@@ -38,6 +38,7 @@ use Rattle.cluster_core.specs.Texts.{RecordKey, OfTable, OfRegion, OfBarriers, O
 use Rattle.cluster_core.proofs.Frames.{station_same}
 use Rattle.cluster_core.proofs.Lookups.{server_number}
 use Rattle.cluster_core.proofs.Naming.{named_apart}
+use Rattle.cluster_core.proofs.Places.{replaced_place}
 use Rattle.cluster_core.proofs.Tracing.{count_push, pending_first, traces_pended}
 
 -- a station that keeps its host
@@ -216,6 +217,24 @@ module _ (own : Cluster) (old new : Contents) (core : ClusterCore) (side : Side)
         (station_moved new side now t (find (is_station t) core.stations) (find (is_server t) side.servers) refl
         (station_same old new side t (find (is_station t) core.stations) (find (is_server t) side.servers) (λ v e. server_number t side.servers v e) (λ l. file_apart t l (λ e _. n (sym here.number ∙ e))) (stands.servers t))))
   ]
+
+  station_again : position (is_station s) stations ≡ Some at
+  station_again = ap (position (is_station s)) stations_are ∙ (replaced_place (is_station s) seated core.stations (eq-eqb h.log.server s host_number) ∙ here.first)
+
+  -- its station is where it was
+  pub accepted_station : (k : HasStation new (standing_so (takes_pending p whole here.server) side) (set core.stations at (record here.station { host = h })) s at) × (k.server ≡ takes_pending p whole here.server)
+  accepted_station =
+      let k : HasStation new now stations s at = record {
+        server = next;
+        known = server_found;
+        number = here.number;
+        station = seated;
+        there = sym (find-at (is_station s) stations at station_again) ∙ station_found;
+        first = station_again;
+        found = station_found;
+        stands = station_here;
+      } in
+      (k, refl)
 
   known_by_number : find (is_server here.server.number) side.servers ≡ Some here.server
   known_by_number = subst (λ k. find (is_server k) side.servers ≡ Some here.server) (sym here.number) here.known

@@ -60,6 +60,18 @@ hosts c side stations s at k sealed = subst (λ b. Current c side.commits k.stat
 pub numbered : (c : Cluster) → is_paired c ≡ true → (m : Machine) → Reached m → AreNumbered (of c m).regions
 numbered c pair m reached = subst (λ (n : Machine). AreNumbered (of c n).regions) reached.2 (λ k. region_is_slot reached.0 reached.1 c pair k)
 
+-- the id that memory tells is that of the state, for a region at a server
+pub next_of : (c : Cluster) → is_paired c ≡ true → (m : Machine) → Reached m → (r : ℕ) (h : Hosted) (s : ℕ) (srv : Server) → find (is_region r) (of c m).regions ≡ Some h → server_at h.place ≡ Some s → find (is_server s) (of c m).servers ≡ Some srv
+    → (index : Index) (seq : ℕ) → IndexStands index (of c m) → IsNextId index r seq → seq ≡ commit_count h.region.number (of c m).commits + pending_count h.region.number srv.pending + 1
+next_of c pair m reached r h s srv there at known index seq stand id =
+    let at_number : find (is_region (suc (r - 1))) (of c m).regions ≡ Some h = subst (λ n. find (is_region n) (of c m).regions ≡ Some h) (sym (its_number r id.least)) there in
+    let found : slice_get index.traces (r - 1) ≡ Some (trace_of (of c m).commits (of c m).servers h) =
+    trace_found index (of c m) stand (numbered c pair m reached) (r - 1) ∙ ap (option_map (trace_of (of c m).commits (of c m).servers)) at_number in
+    let same : id.trace ≡ trace_of (of c m).commits (of c m).servers h = same_Some id.trace (trace_of (of c m).commits (of c m).servers h) (sym id.there ∙ found) in
+    let pending : (trace_of (of c m).commits (of c m).servers h).pending ≡ pending_count h.region.number srv.pending =
+    ap (pending_at h.region.number (of c m).servers) at ∙ pending_was h.region.number s srv (of c m).servers known in
+    id.is ∙ (ap (λ (t : Trace). t.commits + t.pending + 1) same ∙ ap (λ n. commit_count h.region.number (of c m).commits + n + 1) pending)
+
 module _ (c : Cluster) (pair : is_paired c ≡ true) (m : Machine) (reached : Reached m) (files : Contents) (stations : List Station) (table row : List ℕ) (region at : ℕ) (k : HasSeat files (of c m) stations table row region at) where
   hosted_in : In k.hosted (of c m).regions
   hosted_in = found_in (serves table row) (of c m).regions k.hosted k.located
@@ -89,13 +101,5 @@ module _ (c : Cluster) (pair : is_paired c ≡ true) (m : Machine) (reached : Re
   pub seat_place : IsPlaced (of c m).regions k.on region
   seat_place = (k.hosted, seat_region, on_is_at k.hosted.place k.on k.place)
 
-  -- the id that memory tells is that of the state
   pub seat_next : (index : Index) (seq : ℕ) → IndexStands index (of c m) → IsNextId index region seq → seq ≡ commit_count k.hosted.region.number (of c m).commits + pending_count k.hosted.region.number k.station.server.pending + 1
-  seat_next index seq stand id =
-      let at_number : find (is_region (suc (region - 1))) (of c m).regions ≡ Some k.hosted = subst (λ r. find (is_region r) (of c m).regions ≡ Some k.hosted) (sym (its_number region id.least)) seat_region in
-      let found : slice_get index.traces (region - 1) ≡ Some (trace_of (of c m).commits (of c m).servers k.hosted) =
-      trace_found index (of c m) stand (numbered c pair m reached) (region - 1) ∙ ap (option_map (trace_of (of c m).commits (of c m).servers)) at_number in
-      let same : id.trace ≡ trace_of (of c m).commits (of c m).servers k.hosted = same_Some id.trace (trace_of (of c m).commits (of c m).servers k.hosted) (sym id.there ∙ found) in
-      let pending : (trace_of (of c m).commits (of c m).servers k.hosted).pending ≡ pending_count k.hosted.region.number k.station.server.pending =
-      ap (pending_at k.hosted.region.number (of c m).servers) (on_is_at k.hosted.place k.on k.place) ∙ pending_was k.hosted.region.number k.on k.station.server (of c m).servers k.station.known in
-      id.is ∙ (ap (λ (t : Trace). t.commits + t.pending + 1) same ∙ ap (λ n. commit_count k.hosted.region.number (of c m).commits + n + 1) pending)
+  seat_next index seq = next_of c pair m reached region k.hosted k.on k.station.server seat_region (on_is_at k.hosted.place k.on k.place) k.station.known index seq

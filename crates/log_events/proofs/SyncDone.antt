@@ -31,7 +31,7 @@ use Rattle.cluster_core.proofs.Answering.{refused, let_through, faulted_one, doe
 use Rattle.cluster_core.proofs.Settling.{left_with, of_left, beside_left, flights_left, settled_left}
 use Rattle.cluster_core.proofs.Simple.{does_with}
 use Rattle.log_events.specs.Refusals.{sync_refusal}
-use Rattle.log_events.proofs.Acknowledged.{plain_from, all_plain, acks_are}
+use Rattle.cluster_core.proofs.Acknowledged.{plain_from, all_plain, acks_are}
 
 -- ---- the row
 

@@ -1,2 +1,5 @@
-pub mod TableAdded
+pub mod Marked
+pub mod Marking
+pub mod Moving
 pub mod OpeningBegun
+pub mod TableAdded

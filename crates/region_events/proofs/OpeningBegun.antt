@@ -1,13 +1,12 @@
 -- A region that begins to open.
-use Rattle.std.proofs.Common.{ℕ, zero, suc, ◌+◌, ◌-◌, ◌<◌, ◌≤◌, ◌^◌, ◌≡◌, ◌==◌, cond, not, Bool, true, false, List, [], ◌∷◌, ◌++◌, map, find, length, slice_get, Option, Some, None, is_none, refl, ap, sym, ◌∙◌, subst, arith, eq-eqb, eqb-true, ne_eqb}
+use Rattle.std.proofs.Common.{ℕ, zero, suc, ◌+◌, ◌-◌, ◌<◌, ◌^◌, ◌≡◌, ◌==◌, cond, not, Bool, true, false, List, [], ◌∷◌, map, find, length, slice_get, Option, Some, None, is_none, refl, ap, sym, ◌∙◌, subst, arith, eq-eqb, eqb-true, ne_eqb}
 use Rattle.std.specs.List.{AllByRecursion}
 use Rattle.std.specs.Prelude.{IsSome}
-use Rattle.std.specs.Option.{option_map, ForSome}
-use Rattle.std.proofs.lemmas.Bool.{cond-true, cond-false, true≢false, false≢true}
+use Rattle.std.specs.Option.{option_map}
+use Rattle.std.proofs.lemmas.Bool.{cond-true, cond-false, false≢true}
 use Rattle.std.proofs.lemmas.Option.{same_Some, none-some}
 use Rattle.std.proofs.lemmas.List.Sums.{sum_by-cons}
 use Rattle.rep_types.specs.declared.ids.Cluster.{Cluster}
-use Rattle.rep_types.specs.declared.record.Record.{Record}
 use Rattle.rep_types.specs.declared.state.PlaceOf.{PlaceOf}
 use Rattle.rep_types.specs.declared.state.PlaceOf.TheVariants.{Off, Opening, On, Closing, Lost, Gone}
 use Rattle.rep_types.specs.declared.state.Call.TheVariants as call
@@ -15,45 +14,41 @@ use Rattle.rep_types.specs.declared.refusal.Refusal.{Refusal}
 use Rattle.rep_types.specs.declared.refusal.Refusal.TheVariants as refusal
 use Rattle.rep_types.specs.declared.reply.Reply.TheVariants as reply
 use Rattle.rep_vault.specs.declared.store.Change.{Change}
-use Rattle.rep_vault.specs.Contents.{Contents, changed, with_records}
+use Rattle.rep_vault.specs.Contents.{Contents, with_records}
 use Rattle.rep_vault.proofs.Frames.{files_records, stands_records, records_records}
 use Rattle.wal_roll.specs.Log.{wal}
-use Rattle.region_barriers.specs.History.{History, last_barrier}
 use Rattle.region_meta.specs.Regions as meta
 use Rattle.region_meta.specs.Changes as change
 use Rattle.region_meta.specs.declared.region.Region.{Region as MapRegion}
 use Rattle.rep_model.specs.Keyed.{given, replace}
 use Rattle.rep_model.specs.State.{of, with, is_region, is_server, region_of, server_of, with_region}
 use Rattle.rep_model.specs.Commits.{commit_count, pending_count}
-use Rattle.rep_model.specs.Places.{is_off, is_gone}
+use Rattle.rep_model.specs.Places.{is_off}
 use Rattle.rep_model.specs.Row.{Row, answers, first, site}
 use Rattle.rep_model.specs.RegionEvents.{with_barrier, barrier, opened, open_begin_row}
-use Rattle.rep_model.specs.Runs.{state_of, IsLegal}
 use Rattle.rep_model.specs.declared.machine.Machine.{Machine}
 use Rattle.rep_model.specs.declared.machine.Side.{Side}
 use Rattle.rep_model.specs.declared.machine.Hosted.{Hosted}
 use Rattle.rep_model.specs.declared.machine.Server.{Server}
-use Rattle.rep_model.specs.declared.machine.Commit.{Commit}
 use Rattle.rep_model.specs.declared.machine.Pending.{Pending}
 use Rattle.rep_laws.proofs.Lists.{In, all_in, All_weaker, found_in, found_passes}
 use Rattle.rep_laws.proofs.Finding.{find_replaced, find_elsewhere}
 use Rattle.rep_laws.proofs.Acts.{is_at}
-use Rattle.rep_laws.proofs.CitedMore.{pending_is_placed, region_is_slot, region_is_found}
+use Rattle.rep_laws.proofs.CitedMore.{pending_is_placed, region_is_slot}
 use Rattle.cluster_core.specs.declared.parts.ClusterCore.{ClusterCore}
 use Rattle.cluster_core.specs.declared.parts.Station.{Station}
 use Rattle.cluster_core.specs.declared.parts.Trace.{Trace}
-use Rattle.cluster_core.specs.Texts.{RecordKey, OfTable, OfRegion, OfBarriers, OfServer, OfPeer, key_text, region_text, barriers_text, hosted_text, opens_text}
-use Rattle.cluster_core.specs.Changes.{setting}
-use Rattle.cluster_core.specs.Memory.{map_of, map_region, trace_of, history_of, pending_at, server_at, IndexStands}
+use Rattle.cluster_core.specs.Texts.{RecordKey, OfTable, OfRegion, OfBarriers, OfServer, OfPeer, hosted_text, opens_text}
+use Rattle.cluster_core.specs.Memory.{map_of, map_region, trace_of, history_of, pending_at, server_at}
 use Rattle.cluster_core.specs.Absorbing.{change_at}
 use Rattle.cluster_core.specs.Orderly.{AreNumbered}
-use Rattle.cluster_core.specs.Lookups.{ServersStand, HasStation}
+use Rattle.cluster_core.specs.Lookups.{HasStation}
 use Rattle.cluster_core.specs.Stands.{number_of, Stands}
 use Rattle.cluster_core.specs.Does.{Does, Reached}
 use Rattle.cluster_core.proofs.Lookups.{region_of_map, trace_found}
 use Rattle.cluster_core.proofs.Places.{place_found}
 use Rattle.cluster_core.proofs.Tracing.{number_at, same_trace}
-use Rattle.cluster_core.proofs.RecordsPut.{Owes, Put, IsDue, IsAside, change_of, records_put}
+use Rattle.cluster_core.proofs.RecordsPut.{Owes, Put, IsDue, IsAside, records_put}
 use Rattle.cluster_core.proofs.Simple.{simple_refused, simple_faulted, simple_done, does_with, does_nothing}
 use Rattle.cluster_core.proofs.Staying.{servers_kept, lines_kept}
 use Rattle.region_events.specs.Refusals.{open_refusal}

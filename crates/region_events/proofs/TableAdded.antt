@@ -1,10 +1,10 @@
 -- A table and its first region.
-use Rattle.std.proofs.Common.{ℕ, suc, ◌+◌, ◌<◌, ◌≤◌, ◌^◌, ◌≡◌, ◌==◌, cond, nat_lt, Bool, true, false, List, [], ◌∷◌, ◌++◌, map, find, length, count_by, slice_get, filter, Option, Some, None, is_some, refl, ap, sym, ◌∙◌, subst, arith, add-one, eq-eqb, ne_eqb}
+use Rattle.std.proofs.Common.{ℕ, suc, ◌+◌, ◌<◌, ◌≤◌, ◌^◌, ◌≡◌, ◌==◌, cond, nat_lt, Bool, true, false, List, [], ◌∷◌, ◌++◌, map, find, length, slice_get, Option, Some, None, is_some, refl, ap, sym, ◌∙◌, subst, arith, add-one, eq-eqb, ne_eqb}
 use Rattle.std.specs.List.{AllByRecursion}
 use Rattle.std.specs.Str.{bytes_eq}
 use Rattle.std.specs.Option.{option_map}
 use Rattle.std.proofs.lemmas.Bool.Decides.{nat_tests}
-use Rattle.std.proofs.lemmas.Bool.{cond_both, cond-true, cond-false, true≢false, false≢true}
+use Rattle.std.proofs.lemmas.Bool.{cond-true, cond-false, true≢false}
 use Rattle.std.proofs.lemmas.List.{map-append, length-map}
 use Rattle.std.proofs.lemmas.List.Sums.{sum_by-cons}
 use Rattle.std.proofs.lemmas.Option.{slice_get_past, none-some}
@@ -17,19 +17,16 @@ use Rattle.rep_types.specs.declared.refusal.Refusal.{Refusal}
 use Rattle.rep_types.specs.declared.refusal.Refusal.TheVariants as refusal
 use Rattle.rep_types.specs.declared.reply.Reply.TheVariants as reply
 use Rattle.rep_types.specs.Edit.{EditValue}
-use Rattle.rep_vault.specs.declared.store.Change.{Change}
 use Rattle.rep_vault.specs.Contents.{Contents, changed, with_records}
 use Rattle.rep_vault.proofs.Frames.{same_text, other_text, files_records, stands_records, records_records}
 use Rattle.wal_roll.specs.Log.{wal}
-use Rattle.region_meta.specs.Regions.{Map}
 use Rattle.region_meta.specs.Changes as meta
 use Rattle.rep_model.specs.Keyed.{given}
 use Rattle.rep_model.specs.State.{of, with, is_region}
-use Rattle.rep_model.specs.Words.{is_paired}
 use Rattle.rep_model.specs.Commits.{commit_count}
 use Rattle.rep_model.specs.Places.{is_named, table_of}
 use Rattle.rep_model.specs.Reads.{table_edits}
-use Rattle.rep_model.specs.Row.{answers, first, site, fault_among}
+use Rattle.rep_model.specs.Row.{answers, first, site}
 use Rattle.rep_model.specs.RegionEvents.{hosted, next_region, too_many, table_row}
 use Rattle.rep_model.specs.Runs.{state_of, IsLegal}
 use Rattle.rep_model.specs.declared.machine.Machine.{Machine}
@@ -45,7 +42,7 @@ use Rattle.rep_laws.proofs.CitedMore.{regions_are_known, region_is_slot, written
 use Rattle.cluster_core.specs.declared.parts.ClusterCore.{ClusterCore}
 use Rattle.cluster_core.specs.declared.parts.Trace.{Trace}
 use Rattle.cluster_core.specs.declared.parts.TableCells.{TableCells}
-use Rattle.cluster_core.specs.Texts.{RecordKey, OfTable, OfRegion, OfBarriers, OfServer, OfPeer, key_text, family_text, list_text, region_text, barriers_text, table_text, hosted_text, opens_text}
+use Rattle.cluster_core.specs.Texts.{RecordKey, OfTable, OfRegion, OfBarriers, OfServer, OfPeer, family_text, list_text, region_text, barriers_text, table_text, hosted_text, opens_text}
 use Rattle.cluster_core.specs.Changes.{setting}
 use Rattle.cluster_core.specs.Memory.{map_of, map_table, map_region, trace_of, table_cells, IndexStands}
 use Rattle.cluster_core.specs.Stands.{number_of, Stands}

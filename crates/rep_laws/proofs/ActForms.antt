@@ -83,8 +83,11 @@ server_number c s m v e = eqb-true v.number s (found_passes (is_server s) (of c 
 pub server_again : (c : Cluster) (s : ℕ) (m : Machine) (v : Server) → server_of c s m ≡ Some v → server_of c v.number m ≡ Some v
 server_again c s m v e = ap (λ k. server_of c k m) (server_number c s m v e) ∙ e
 
+pub region_number : (c : Cluster) (r : ℕ) (m : Machine) (h : Hosted) → region_of c r m ≡ Some h → h.region.number ≡ r
+region_number c r m h e = eqb-true h.region.number r (found_passes (is_region r) (of c m).regions h e)
+
 pub region_again : (c : Cluster) (r : ℕ) (m : Machine) (h : Hosted) → region_of c r m ≡ Some h → region_of c h.region.number m ≡ Some h
-region_again c r m h e = ap (λ k. region_of c k m) (eqb-true h.region.number r (found_passes (is_region r) (of c m).regions h e)) ∙ e
+region_again c r m h e = ap (λ k. region_of c k m) (region_number c r m h e) ∙ e
 
 -- the places that the look-ups tell
 pub on_is : (p : PlaceOf) (s : ℕ) → on_at p ≡ Some s → p ≡ place.On s
@@ -157,6 +160,7 @@ synced_acts c pair v ps m found all room = act (EntriesCommit c pair v (emptied 
   found = found;
   number = refl;
   log = inl refl;
+  lowest = refl;
   live = refl;
   sealed = inl refl;
   opens = λ h. h;

@@ -1,5 +1,5 @@
 -- What an event does to servers, regions, commits, peers, queues, flights and tickets, told more exactly than by moves.
-use Rattle.std.proofs.Common.{ℕ, ◌+◌, ◌≤◌, ◌≡◌, ◌==◌, ◌⊎◌, Bool, true, false, List, [], ◌∷◌, ◌++◌, length, map, find, take, Some, None, is_some}
+use Rattle.std.proofs.Common.{ℕ, ◌+◌, ◌≤◌, ◌≡◌, ◌==◌, ◌⊎◌, Bool, true, false, List, [], ◌∷◌, ◌++◌, length, map, find, take, drop, Some, None, is_some}
 use Rattle.std.specs.List.{AllByRecursion}
 use Rattle.rep_types.specs.declared.ids.Cluster.{Cluster}
 use Rattle.rep_types.specs.declared.entry.EntryId.{EntryId}
@@ -13,7 +13,7 @@ use Rattle.rep_model.specs.Keyed.{replace}
 use Rattle.rep_model.specs.State.{of, with, other, is_server, is_region, is_peer, is_flight, server_of, region_of, queue_of, flight_of, with_server, with_region, with_peer, with_queue}
 use Rattle.rep_model.specs.Words.{is_paired}
 use Rattle.rep_model.specs.Changes.{takes_pending}
-use Rattle.rep_model.specs.Commits.{log_commits, settled}
+use Rattle.rep_model.specs.Commits.{stands_in, log_commits, settled}
 use Rattle.rep_model.specs.Copies.{lowest_copy}
 use Rattle.rep_model.specs.Forms.{forms}
 use Rattle.rep_model.specs.Frames.{commits_length, pending_length}
@@ -21,9 +21,11 @@ use Rattle.rep_model.specs.Peers.{is_removed, is_synchronous}
 use Rattle.rep_model.specs.Places.{after_death, is_named, used}
 use Rattle.rep_model.specs.Tickets.{with_ticket, doubt_pending, tell_waiting}
 use Rattle.rep_model.specs.LogEvents.{server_added}
+use Rattle.rep_model.specs.RegionEvents.{barrier, with_barrier}
 use Rattle.rep_model.specs.PeerEvents.{peer_added, restarted_side}
 use Rattle.rep_model.specs.PromotionEvents.{covered_tables}
 use Rattle.rep_model.specs.declared.machine.Machine.{Machine}
+use Rattle.rep_model.specs.declared.machine.Commit.{Commit}
 use Rattle.rep_model.specs.declared.machine.Pending.{Pending}
 use Rattle.rep_model.specs.declared.machine.Written.{Written}
 use Rattle.rep_model.specs.declared.machine.Table.{Table}
@@ -103,6 +105,21 @@ pub data Turns (c : Cluster) (m : Machine) : PlaceOf → PlaceOf → Type 0 wher
   Retires : Turns c m place.Off place.Gone
   StaysGone : Turns c m place.Gone place.Gone
 
+-- what a region's openings answered stays, or the next sequence id comes behind it
+abbrev pub OpensSo : Cluster → Machine → Hosted → Hosted → Type 0
+OpensSo c m h new = (new.opens ≡ h.opens) ⊎ (new.opens ≡ with_barrier (barrier c h.region.number m) h.opens)
+
+-- the server's lowest log may go: it isn't its current one, unless that is sealed, and each peer that isn't removed has recorded what it has of it
+pub record Sweepable (c : Cluster) (m : Machine) (v : Server) (lowest : ℕ) : Type 0 where
+  pub next : lowest ≡ v.lowest + 1
+  pub current : v.sealed ≡ false → v.lowest + 1 ≤ v.log
+  pub recorded : (p : Peer) → In p (of c m).peers → is_removed p.standing ≡ false → (x : Commit) → In x (drop p.start (of c m).commits) → x.server ≡ v.number → x.log ≡ v.lowest → stands_in p.recorded x ≡ true
+
+-- the peer starts where it did, and what it had recorded is recorded still
+pub record Widens (x new : Peer) : Type 0 where
+  pub start : new.start ≡ x.start
+  pub recorded : (y : Commit) → stands_in x.recorded y ≡ true → stands_in new.recorded y ≡ true
+
 -- an entry that waited, or comes now without a ticket
 abbrev pub IsDue : Cluster → Machine → Server → Pending → Type 0
 IsDue c m v x = In x v.pending ⊎ (Served c m v x.region × (x.ticket ≡ None) × OfTable x.kind x.region)
@@ -112,6 +129,7 @@ pub record Committing (c : Cluster) (m : Machine) (v new : Server) (xs : List Pe
   pub found : server_of c v.number m ≡ Some v
   pub number : new.number ≡ v.number
   pub log : (new.log ≡ v.log) ⊎ (new.log ≡ v.log + 1)
+  pub lowest : new.lowest ≡ v.lowest
   pub live : new.live ≡ v.live
   pub sealed : (new.sealed ≡ v.sealed) ⊎ (v.live ≡ false)
   pub opens : new.sealed ≡ false → v.sealed ≡ false
@@ -134,19 +152,19 @@ pub data Act (m : Machine) : Machine → Type 0 where
   -- waiting tickets end
   TicketsEnd : (c : Cluster) (test : ℕ → ℕ → Bool) (new : EntryId → Told) → Act m (record m { tickets = tell_waiting c test new m.tickets })
   ServerJoins : (c : Cluster) → is_paired c ≡ true → (s : ℕ) → server_of c s m ≡ None → Act m (server_added c s m)
-  ServerStands : (c : Cluster) → is_paired c ≡ true → (v : Server) (whole : Bool) (lowest : ℕ) → server_of c v.number m ≡ Some v → Act m (with_server c (record v { whole = whole; lowest = lowest }) m)
+  ServerStands : (c : Cluster) → is_paired c ≡ true → (v : Server) (whole : Bool) (lowest : ℕ) → server_of c v.number m ≡ Some v → (lowest ≡ v.lowest) ⊎ Sweepable c m v lowest → Act m (with_server c (record v { whole = whole; lowest = lowest }) m)
   ServerDies : (c : Cluster) → is_paired c ≡ true → (v : Server) → server_of c v.number m ≡ Some v → v.live ≡ true → Act m (died c v m)
   -- new regions, numbered behind those that stand, and from such that are Gone; no table goes
   RegionsJoin : (c : Cluster) → is_paired c ≡ true → (tables : List Table) (hs : List Hosted) → Numbered (length (of c m).regions + 1) (region_numbers hs) → AllByRecursion (λ (h : Hosted). h.place ≡ place.Off) hs
-      → ((name : List ℕ) → HasTable (of c m).tables name → HasTable tables name) → FromGone (of c m).regions hs → Act m (with c (record (of c m) { tables = tables; regions = (of c m).regions ++ hs }) m)
-  RegionTurns : (c : Cluster) → is_paired c ≡ true → (h new : Hosted) → region_of c new.region.number m ≡ Some h → new.region ≡ h.region → Turns c m h.place new.place → Act m (with_region c new m)
+      → ((name : List ℕ) → HasTable (of c m).tables name → HasTable tables name) → FromGone (of c m).regions hs → AllByRecursion (λ (h : Hosted). h.opens ≡ []) hs → Act m (with c (record (of c m) { tables = tables; regions = (of c m).regions ++ hs }) m)
+  RegionTurns : (c : Cluster) → is_paired c ≡ true → (h new : Hosted) → region_of c new.region.number m ≡ Some h → new.region ≡ h.region → Turns c m h.place new.place → OpensSo c m h new → Act m (with_region c new m)
   -- an entry without a ticket is pending, and a put with the next ticket
   EntryPends : (c : Cluster) → is_paired c ≡ true → (v : Server) (x : Pending) (whole : Bool) → Served c m v x.region → used c v m + frame_length x.kind ≤ 65536 → x.ticket ≡ None → OfTable x.kind x.region → Act m (with_server c (takes_pending x whole v) m)
   PutPends : (c : Cluster) → is_paired c ≡ true → (v : Server) (x : Pending) → Served c m v x.region → used c v m + frame_length x.kind ≤ 65536 → x.ticket ≡ Some (length m.tickets + 1) → OfTable x.kind x.region → Act m (with_ticket c (with_server c (takes_pending x true v) m))
   EntriesCommit : (c : Cluster) → is_paired c ≡ true → (v new : Server) (xs : List Pending) (ts : List Ticket) → Committing c m v new xs ts → Act m (settled c v.number v.log xs (with_server c new (record m { tickets = ts })))
   -- the peer's tables stand in the other cluster
   PeerJoins : (c : Cluster) → is_paired c ≡ true → (p : ℕ) (kind : Kind) (tables : List (List ℕ)) → peer_at p (of c m).peers ≡ None → AllByRecursion (HasTable (of (other c) m).tables) tables → Act m (peer_added c p kind tables m)
-  PeerStands : (c : Cluster) → is_paired c ≡ true → (x new : Peer) → peer_at new.number (of c m).peers ≡ Some x → is_removed new.standing ≡ is_removed x.standing → (is_synchronous new.kind ≡ true → is_synchronous x.kind ≡ true) → new.tables ≡ x.tables → Act m (with_peer c new m)
+  PeerStands : (c : Cluster) → is_paired c ≡ true → (x new : Peer) → peer_at new.number (of c m).peers ≡ Some x → is_removed new.standing ≡ is_removed x.standing → (is_synchronous new.kind ≡ true → is_synchronous x.kind ≡ true) → new.tables ≡ x.tables → Widens x new → Act m (with_peer c new m)
   -- a peer that isn't synchronous is removed, and its queues go
   PeerLeaves : (c : Cluster) → is_paired c ≡ true → (x : Peer) → peer_at x.number (of c m).peers ≡ Some x → is_synchronous x.kind ≡ false
       → Act m (with c (record (of c m) { peers = replace (is_peer x.number) (record x { standing = standing.Removed }) (of c m).peers; queues = other_queues x.number (of c m).queues }) m)

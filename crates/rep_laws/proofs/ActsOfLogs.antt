@@ -74,7 +74,7 @@ pub sync_acted : (c : Cluster) → is_paired c ≡ true → (s : ℕ) (said : Re
 unfolding sync_row
 sync_acted c pair s said m = first_acted (live_refusals c s m ((not (if_some (server_of c s m) (λ srv. srv.whole)), refusal.Broken (log_of c s m)) ∷ [])) (λ _.
     fault_acted (fault_among (site c call.Sync ∷ []) said) said
-    (λ _. given_acts (server_of c s m) m _ (λ v e. act (ServerStands c pair v false v.lowest (server_again c s m v e))))
+    (λ _. given_acts (server_of c s m) m _ (λ v e. act (ServerStands c pair v false v.lowest (server_again c s m v e) (inl refl))))
     (given_acted (server_of c s m) still_acted (λ v e. record { acts = synced_acts c pair v [] m (server_again c s m v e) tt (λ h. nothing_more _ h) })))
 
 -- roll, crash, seal
@@ -121,6 +121,7 @@ roll_acted c pair s said m = simple_acted (live_refusals c s m ((if_some (server
         found = server_again c s m v e;
         number = refl;
         log = inr refl;
+        lowest = refl;
         live = refl;
         sealed = inl refl;
         opens = λ h. h;
@@ -150,6 +151,7 @@ seal_acted c pair s said m = simple_acted (
         found = server_again c s m v e;
         number = refl;
         log = inl refl;
+        lowest = refl;
         live = refl;
         sealed = inr (if_some_false (server_of c s m) (λ (w : Server). w.live) v e none.1.0);
         opens = λ h. absurd (true≢false h);

@@ -76,7 +76,7 @@ peer_stands c p m x e = by_found (peer_at p (of c m).peers) e
     by_found (Some y) q = cond_both (is_removed y.standing) None (Some y) (λ w. w ≡ Some x → is_removed x.standing ≡ false) (λ _ r. absurd (none-some x r)) (λ f r. sym (ap (λ (z : Peer). is_removed z.standing) (same_Some y x r)) ∙ f) q
 
 standing_acts : (c : Cluster) → is_paired c ≡ true → (p : ℕ) (to : Standing) (m : Machine) → is_removed to ≡ false → Acts m (given (peer_of c p m) m (λ x. with_peer c (record x { standing = to }) m))
-standing_acts c pair p to m stays = given_acts (peer_of c p m) m _ (λ x e. act (PeerStands c pair x (record x { standing = to }) (peer_here c p m x e) (stays ∙ sym (peer_stands c p m x e)) (λ h. h) refl))
+standing_acts c pair p to m stays = given_acts (peer_of c p m) m _ (λ x e. act (PeerStands c pair x (record x { standing = to }) (peer_here c p m x e) (stays ∙ sym (peer_stands c p m x e)) (λ h. h) refl (record { start = refl; recorded = λ y h. h })))
 
 pub enable_acted : (c : Cluster) → is_paired c ≡ true → (p : ℕ) (said : Reply) (m : Machine) → Acted m (enable_row c p said m)
 unfolding enable_row
@@ -112,7 +112,7 @@ remove_acted c pair p said m = simple_acted ((is_none (peer_of c p m), refusal.N
 pub make_serial_acted : (c : Cluster) → is_paired c ≡ true → (p : ℕ) (said : Reply) (m : Machine) → Acted m (make_serial_row c p said m)
 unfolding make_serial_row
 make_serial_acted c pair p said m = simple_acted ((is_none (peer_of c p m), refusal.NoPeer) ∷ (of_kind is_synchronous c p m, refusal.IsSync) ∷ (of_kind is_serial c p m, refusal.IsSerial) ∷ []) (site c call.Put ∷ []) said
-    (λ _. record { acts = given_acts (peer_of c p m) m _ (λ x e. act (PeerStands c pair x _ (peer_here c p m x e) refl (λ h. absurd (false≢true h)) refl)) })
+    (λ _. record { acts = given_acts (peer_of c p m) m _ (λ x e. act (PeerStands c pair x _ (peer_here c p m x e) refl (λ h. absurd (false≢true h)) refl (record { start = refl; recorded = λ y h. h }))) })
 
 -- mirror and sweepremote
 

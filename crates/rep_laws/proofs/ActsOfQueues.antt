@@ -26,6 +26,7 @@ use Rattle.rep_model.specs.declared.machine.Commit.{Commit}
 use Rattle.rep_model.specs.declared.machine.Form.{Form}
 use Rattle.rep_model.specs.declared.machine.Flight.{Flight}
 use Rattle.rep_laws.proofs.Lists.{All_found}
+use Rattle.rep_laws.proofs.Admitting.{stands_in_left}
 use Rattle.rep_laws.proofs.SerialPart.{found_again}
 use Rattle.rep_laws.proofs.Sides.{other_paired}
 use Rattle.rep_laws.proofs.Steps.{not_none}
@@ -117,7 +118,7 @@ lose_acted k said m pairs =
     (λ _. given_acted (flight_of k m) still_acted (λ f e. record { acts = flown_acts f.cluster (All_found _ (is_flight k) m.flights f e pairs) f.peer f.server None m }))
 
 recorded_acts : (c : Cluster) → is_paired c ≡ true → (p : ℕ) (entries : List Commit) (m : Machine) → Acts m (recorded c p entries m)
-recorded_acts c pair p entries m = given_acts (find (is_peer p) (of c m).peers) m _ (λ x e. act (PeerStands c pair x _ (found_again p (of c m).peers x e) refl (λ h. h) refl))
+recorded_acts c pair p entries m = given_acts (find (is_peer p) (of c m).peers) m _ (λ x e. act (PeerStands c pair x _ (found_again p (of c m).peers x e) refl (λ h. h) refl (record { start = refl; recorded = λ y h. stands_in_left x.recorded entries y h })))
 
 pub confirm_acted : (k : ℕ) (said : Reply) (m : Machine) → AllPaired m.flights → Acted m (confirm_row k said m)
 unfolding confirm_row

@@ -23,7 +23,7 @@ use Rattle.rep_model.specs.Commits.{settled, settled_one}
 use Rattle.rep_model.specs.Places.{is_off, opens_at, on_at, closes_at, lost_at, is_named, table_of, is_closed, used, lacks_room}
 use Rattle.rep_model.specs.Needs.{log_needer}
 use Rattle.rep_model.specs.LogEvents.{own_pending, broken_by, emptied, synced_with}
-use Rattle.rep_model.specs.RegionEvents.{too_many, table_row, place_of, moved, barrier, opened, open_begin_row, Marking, marking, marker_refusals, marked_at, open_end_row, close_begin_row, close_end_row, flushed, recover_row, flush_row, compact_row, splits, split_row, merge_row, has_no_log, sweep_row}
+use Rattle.rep_model.specs.RegionEvents.{too_many, table_row, place_of, moved, with_barrier, barrier, opened, open_begin_row, Marking, marking, marker_refusals, marked_at, open_end_row, close_begin_row, close_end_row, flushed, recover_row, flush_row, compact_row, splits, split_row, merge_row, has_no_log, sweep_row}
 use Rattle.rep_model.specs.Row.{site, run_sites, fault_among, is_put}
 use Rattle.rep_model.specs.declared.machine.Machine.{Machine}
 use Rattle.rep_model.specs.declared.machine.Side.{Side}
@@ -40,7 +40,8 @@ use Rattle.rep_laws.proofs.DoesQueues.{given_is}
 use Rattle.rep_laws.proofs.DoesRegions.{placed_refusals, region_in}
 use Rattle.rep_laws.proofs.Numbering.{Numbered}
 use Rattle.rep_laws.proofs.Acts.{works_at, is_at, HasTable, OfTable, StandsGone, Served, Turns, Stays, Opens, Opened, Closes, Leaves, Retires, StaysGone, Act, Acts, act, acts_then, ServerStands, RegionsJoin, RegionTurns}
-use Rattle.rep_laws.proofs.ActForms.{Acted, first_acted, fault_acted, simple_acted, given_acted, still_acted, given_acts, server_number, server_again, region_again, on_is, opens_is, closes_is, lost_is, off_is, has_room, broken_acts, synced_one}
+use Rattle.rep_laws.proofs.ActForms.{Acted, first_acted, fault_acted, simple_acted, given_acted, still_acted, given_acts, server_number, server_again, region_number, region_again, on_is, opens_is, closes_is, lost_is, off_is, has_room, broken_acts, synced_one}
+use Rattle.rep_laws.proofs.Sweeping.{sweepable}
 
 some_there : {X : Type 0} (o : Option X) → is_some o ≡ true → (x : X) × (o ≡ Some x)
 some_there None h = absurd (false≢true h)
@@ -53,7 +54,7 @@ still_named name tables more h = let t = some_there (find (is_named name) tables
 pub table_acted : (c : Cluster) → is_paired c ≡ true → (name : List ℕ) (families : List Family) (said : Reply) (m : Machine) → Acted m (table_row c name families said m)
 unfolding table_row
 table_acted c pair name families said m = simple_acted ((is_some (table_of c name m), refusal.Exists) ∷ (too_many c 1 m, refusal.TooMany) ∷ []) (site c call.Put ∷ []) said
-    (λ _. record { acts = act (RegionsJoin c pair _ _ (refl, tt) (refl, tt) (λ n h. still_named n (of c m).tables _ h) (tt, tt)) })
+    (λ _. record { acts = act (RegionsJoin c pair _ _ (refl, tt) (refl, tt) (λ n h. still_named n (of c m).tables _ h) (tt, tt) (refl, tt)) })
 
 -- the region's place, where it is there
 place_there : (c : Cluster) (r : ℕ) (m : Machine) (h : Hosted) → region_of c r m ≡ Some h → place_of c r m ≡ h.place
@@ -71,7 +72,7 @@ open_begin_acted c pair r s said m = simple_acted (
     let v = not_none (server_of c s m) none.1.0 in
     let live : v.0.live ≡ true = if_some_true (server_of c s m) (λ (w : Server). w.live) v.0 v.1 (not-false _ none.1.1.0) in
     let off : h.place ≡ place.Off = off_is h.place (ap is_off (sym (place_there c r m h e)) ∙ not-false _ none.1.1.1.0) in
-    record { acts = act (RegionTurns c pair h (opened s (barrier c r m) h) (region_again c r m h e) refl (subst (λ p. Turns c m p (place.Opening s)) (sym off) (Opens s v.0 v.1 live))) }))
+    record { acts = act (RegionTurns c pair h (opened s (barrier c r m) h) (region_again c r m h e) refl (subst (λ p. Turns c m p (place.Opening s)) (sym off) (Opens s v.0 v.1 live)) (inr (ap (λ k. with_barrier (barrier c k m) h.opens) (sym (region_number c r m h e))))) }))
 
 -- a marker's region and server are the cluster's, and the region is of such a place there
 pub record MarkerAt (at : PlaceOf → Option ℕ) (c : Cluster) (m : Machine) (x : Marking) : Type 0 where
@@ -127,7 +128,7 @@ marked_acts c pair x k to m s room titled there turns =
     ap (λ (w : List Server). find (is_server v.number) w) (settled_servers c v.number v.log (v.pending ++ p ∷ []) m1 ∙ ap (λ (w : Side). w.servers) (of_with c side m))
     ∙ find_replaced (is_server v.number) (emptied v) v (of c m).servers (eq-eqb v.number v.number refl) s.found in
     subst (Acts m) (sym (ap (settled c v.number v.log (v.pending ++ p ∷ [])) (turned c new (emptied v) m) ∙ settled_turned c v.number v.log (v.pending ++ p ∷ []) new m1))
-    (acts_then (synced_one c pair v p m s room refl titled) (act (RegionTurns c pair x.hosted new found refl (turns mid empty))))
+    (acts_then (synced_one c pair v p m s room refl titled) (act (RegionTurns c pair x.hosted new found refl (turns mid empty) (inl refl))))
 
 -- what a failed call leaves of a marker: it is committed, or pending in a broken log
 failed_acts : (committed : Bool) (c : Cluster) → is_paired c ≡ true → (x : Marking) (k : EntryKind) (m : Machine) → Served c m x.server x.hosted.region → used c x.server m + frame_length k ≤ 65536 → OfTable k x.hosted.region
@@ -159,7 +160,7 @@ pub close_begin_acted : (c : Cluster) → is_paired c ≡ true → (r : ℕ) (sa
 unfolding close_begin_row
 close_begin_acted c pair r said m = simple_acted (placed_refusals c r (is_some (on_at (place_of c r m))) m []) [] said (λ _.
     given_acted (region_of c r m) still_acted (λ h e. given_acted (on_at h.place) still_acted (λ s q. record {
-      acts = act (RegionTurns c pair h (moved (place.Closing s) h) (region_again c r m h e) refl (subst (λ p. Turns c m p (place.Closing s)) (sym (on_is h.place s q)) (Closes s)));
+      acts = act (RegionTurns c pair h (moved (place.Closing s) h) (region_again c r m h e) refl (subst (λ p. Turns c m p (place.Closing s)) (sym (on_is h.place s q)) (Closes s)) (inl refl));
     })))
 
 pub close_end_acted : (c : Cluster) → is_paired c ≡ true → (r : ℕ) (said : Reply) (m : Machine) → Acted m (close_end_row c r said m)
@@ -199,13 +200,13 @@ recover_acted c pair r said m = simple_acted (placed_refusals c r (is_some (lost
     (not (if_some (server_of c (lost_server c r m) m) (λ srv. srv.sealed)), refusal.NotSealed (lost_server c r m))
     ∷ [])) (site c call.Read ∷ run_sites c (site c call.Put ∷ [])) said
     (λ none. given_acted (region_of c r m) still_acted (λ h e. record {
-      acts = act (RegionTurns c pair h (moved place.Off (flushed c r m h)) (region_again c r m h e) refl (recovered c r m h e (not-false _ none.1.0) (not-false _ none.1.1.0)));
+      acts = act (RegionTurns c pair h (moved place.Off (flushed c r m h)) (region_again c r m h e) refl (recovered c r m h e (not-false _ none.1.0) (not-false _ none.1.1.0)) (inl refl));
     }))
 
 pub flush_acted : (c : Cluster) → is_paired c ≡ true → (r : ℕ) (said : Reply) (m : Machine) → Acted m (flush_row c r said m)
 unfolding flush_row
 flush_acted c pair r said m = simple_acted (placed_refusals c r (is_some (on_at (place_of c r m))) m []) (run_sites c (site c call.Put ∷ [])) said
-    (λ _. given_acted (region_of c r m) still_acted (λ h e. record { acts = act (RegionTurns c pair h (flushed c r m h) (region_again c r m h e) refl (Stays h.place)) }))
+    (λ _. given_acted (region_of c r m) still_acted (λ h e. record { acts = act (RegionTurns c pair h (flushed c r m h) (region_again c r m h e) refl (Stays h.place) (inl refl)) }))
 
 pub compact_acted : (c : Cluster) → (r : ℕ) (said : Reply) (m : Machine) → Acted m (compact_row c r said m)
 unfolding compact_row
@@ -269,14 +270,14 @@ split_acted c pair r key said m = simple_acted (placed_refusals c r (is_off (pla
     (λ none. given_acted (region_of c r m) still_acted (λ h e.
     let m1 : Machine = with_region c (retired c r m h) m in
     record {
-      acts = acts_then (act (RegionTurns c pair h (retired c r m h) (region_again c r m h e) refl (retires c r m h e (not-false _ none.1.0))))
-          (act (RegionsJoin c pair (of c m1).tables _ (two_numbered (length (of c m1).regions) (length (of c m).regions) (still_long c (retired c r m h) m)) (refl, (refl, tt)) (λ n q. q) (let gone = gone_now c m h (retired c r m h) (region_again c r m h e) refl in ((gone, tt), ((gone, tt), tt)))));
+      acts = acts_then (act (RegionTurns c pair h (retired c r m h) (region_again c r m h e) refl (retires c r m h e (not-false _ none.1.0)) (inl refl)))
+          (act (RegionsJoin c pair (of c m1).tables _ (two_numbered (length (of c m1).regions) (length (of c m).regions) (still_long c (retired c r m h) m)) (refl, (refl, tt)) (λ n q. q) (let gone = gone_now c m h (retired c r m h) (region_again c r m h e) refl in ((gone, tt), ((gone, tt), tt))) (refl, (refl, tt))));
     }))
 
 -- the second of two regions retires behind the first, which may be the same
 retires_behind : (c : Cluster) → is_paired c ≡ true → (g h gone new : Hosted) (m : Machine) → region_of c g.region.number m ≡ Some g → region_of c h.region.number m ≡ Some h
-    → gone.region ≡ g.region → gone.place ≡ place.Gone → new.region ≡ h.region → new.place ≡ place.Gone → h.place ≡ place.Off → Act (with_region c gone m) (with_region c new (with_region c gone m))
-retires_behind c pair g h gone new m there here same is_gone again to off =
+    → gone.region ≡ g.region → gone.place ≡ place.Gone → gone.opens ≡ g.opens → new.region ≡ h.region → new.place ≡ place.Gone → new.opens ≡ h.opens → h.place ≡ place.Off → Act (with_region c gone m) (with_region c new (with_region c gone m))
+retires_behind c pair g h gone new m there here same is_gone left again to kept off =
     let side : Side = record (of c m) { regions = replace (is_region gone.region.number) gone (of c m).regions } in
     let m1 : Machine = with_region c gone m in
     let n : gone.region.number ≡ g.region.number = ap (λ (r : Region). r.number) same in
@@ -291,11 +292,13 @@ retires_behind c pair g h gone new m there here same is_gone again to off =
           (now _ refl ∙ (ap (λ j. find (is_region j) (replace (is_region gone.region.number) gone (of c m).regions)) (sym e) ∙ find_replaced (is_region gone.region.number) gone g (of c m).regions (eq-eqb gone.region.number gone.region.number refl) old))
           (again ∙ (ap (λ (x : Hosted). x.region) (sym one) ∙ sym same))
           (subst (λ p. Turns c m1 p new.place) (sym is_gone) (subst (λ p. Turns c m1 place.Gone p) (sym to) StaysGone))
+          (inl (kept ∙ (ap (λ (x : Hosted). x.opens) (sym one) ∙ sym left)))
           )
       | inr apart ↦ RegionTurns c pair h new
           (now _ refl ∙ (find_elsewhere (is_region gone.region.number) (is_region h.region.number) gone (of c m).regions (ne_eqb gone.region.number h.region.number apart) (λ y t. ne_eqb y.region.number h.region.number (λ z. apart (sym (eqb-true y.region.number gone.region.number t) ∙ z))) ∙ here))
           again
           (subst (λ p. Turns c m1 p new.place) (sym off) (subst (λ p. Turns c m1 place.Off p) (sym to) Retires))
+          (inl kept)
     ]
 
 one_numbered : (a b : ℕ) → a ≡ b → Numbered (a + 1) ((b + 1) ∷ [])
@@ -319,10 +322,10 @@ merge_acted c pair r s said m = simple_acted (
     let m2 : Machine = with_region c new m1 in
     let off : h.place ≡ place.Off = off_is h.place (ap is_off (sym (place_there c s m h f)) ∙ not-false _ none.1.1.1.0) in
     record {
-      acts = acts_then (acts_then (act (RegionTurns c pair g gone (region_again c r m g e) refl (retires c r m g e (not-false _ none.1.1.0))))
-          (act (retires_behind c pair g h gone new m (region_again c r m g e) (region_again c s m h f) refl refl refl refl off)))
+      acts = acts_then (acts_then (act (RegionTurns c pair g gone (region_again c r m g e) refl (retires c r m g e (not-false _ none.1.1.0)) (inl refl)))
+          (act (retires_behind c pair g h gone new m (region_again c r m g e) (region_again c s m h f) refl refl refl refl refl refl off)))
           (act (RegionsJoin c pair (of c m2).tables _ (one_numbered (length (of c m2).regions) (length (of c m).regions) (still_long c new m1 ∙ still_long c gone m)) (refl, tt) (λ n q. q)
-          ((gone_still c m1 new g.region.number refl (gone_now c m g gone (region_again c r m g e) refl), (gone_behind c m h gone new (region_again c s m h f) refl, tt)), tt)));
+          ((gone_still c m1 new g.region.number refl (gone_now c m g gone (region_again c r m g e) refl), (gone_behind c m h gone new (region_again c s m h f) refl, tt)), tt) (refl, tt)));
     })))
 
 -- sweep
@@ -339,4 +342,6 @@ sweep_acted c pair s said m =
     ∷ (if_some (server_of c s m) has_no_log, refusal.NoLog)
     ∷ (is_some by, given by refusal.NoLog (λ n. refusal.Needed n))
     ∷ []) (site c call.Remove ∷ []) said
-    (λ _. given_acted (server_of c s m) still_acted (λ v e. record { acts = act (ServerStands c pair v v.whole (v.lowest + 1) (server_again c s m v e)) }))
+    (λ none. given_acted (server_of c s m) still_acted (λ v e. record {
+      acts = act (ServerStands c pair v v.whole (v.lowest + 1) (server_again c s m v e) (inr (sweepable c s m v e (if_some_false (server_of c s m) has_no_log v e none.1.0) none.1.1.0)));
+    }))

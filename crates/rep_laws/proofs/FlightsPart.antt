@@ -28,15 +28,15 @@ pub act_flights : (m new : Machine) → Act m new → FlightsNumbered m.flights 
 act_flights m new (LinkStands c pair ws link items) k = aside c _ m k
 act_flights m new (TicketsEnd c test to) k = k
 act_flights m new (ServerJoins c pair s none) k = aside c _ m k
-act_flights m new (ServerStands c pair v whole lowest found) k = aside c _ m k
+act_flights m new (ServerStands c pair v whole lowest found swept) k = aside c _ m k
 act_flights m new (ServerDies c pair v found live) k = aside c _ m k
-act_flights m new (RegionsJoin c pair tables hs behind off more gone) k = aside c _ m k
-act_flights m new (RegionTurns c pair h to found same turns) k = aside c _ m k
+act_flights m new (RegionsJoin c pair tables hs behind off more gone closed) k = aside c _ m k
+act_flights m new (RegionTurns c pair h to found same turns opens) k = aside c _ m k
 act_flights m new (EntryPends c pair v x whole served room none titled) k = aside c _ m k
 act_flights m new (PutPends c pair v x served room ticket titled) k = aside c _ m k
 act_flights m new (EntriesCommit c pair v to xs ts commits) k = subst FlightsNumbered (sym (settled_flights c v.number v.log xs (with_server c to (record m { tickets = ts })))) (aside c _ (record m { tickets = ts }) k)
 act_flights m new (PeerJoins c pair p kind tables none there) k = aside c _ m k
-act_flights m new (PeerStands c pair x to found same sync covers) k = aside c _ m k
+act_flights m new (PeerStands c pair x to found same sync covers wide) k = aside c _ m k
 act_flights m new (PeerLeaves c pair x found plain) k = aside c _ m k
 act_flights m new (PeersRestart c pair) k = aside c _ m k
 act_flights m new (QueueStands c pair q to found) k = aside c _ m k

@@ -44,6 +44,7 @@ pub mod Cited
 pub mod Numbering
 pub mod Acts
 pub mod ActForms
+pub mod Sweeping
 pub mod ActsOfLogs
 pub mod ActsOfRegions
 pub mod ActsOfQueues
@@ -57,8 +58,11 @@ pub mod PromisePart
 pub mod QueuesPart
 pub mod LogsPart
 pub mod TablesPart
+pub mod LowestPart
+pub mod OpensPart
 pub mod Steady
 pub mod CitedMore
+pub mod CitedLogs
 pub mod Lengths
 pub mod RowLengths
 pub mod RowLeaves

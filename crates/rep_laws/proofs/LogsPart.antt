@@ -121,10 +121,10 @@ pend_logged {servers} {K} v x whole found room o = server_logged v (takes_pendin
 
 -- entries are committed
 
-abbrev OfLog : ℕ → ℕ → Commit → Type 0
+abbrev pub OfLog : ℕ → ℕ → Commit → Type 0
 OfLog s l x = (x.server ≡ s) × (x.log ≡ l)
 
-numbered_log : (s l : ℕ) (K : List Commit) (xs : List Pending) → AllByRecursion (OfLog s l) (numbered s l K xs)
+pub numbered_log : (s l : ℕ) (K : List Commit) (xs : List Pending) → AllByRecursion (OfLog s l) (numbered s l K xs)
 numbered_log s l K [] = tt
 numbered_log s l K (x ∷ xs) = ((refl, refl), numbered_log s l (K ++ commit_of s l K x ∷ []) xs)
 
@@ -211,7 +211,7 @@ next_log_none v servers K found a = ap (λ (w : List Commit). commits_length w) 
       | inl e ↦ and_right (x.server == v.number) (x.log == v.log + 1) (ne_eqb x.log (v.log + 1) (λ f. too_high x.log v.log (log_top v servers found x w e) f))
     ]
 
-log_no_lower : (a b : ℕ) → (b ≡ a) ⊎ (b ≡ a + 1) → a ≤ b
+pub log_no_lower : (a b : ℕ) → (b ≡ a) ⊎ (b ≡ a + 1) → a ≤ b
 log_no_lower a b h = elim h [ inl e ↦ same e | inr e ↦ next e ]
   where
     same : b ≡ a → a ≤ b
@@ -297,18 +297,18 @@ pub act_logged : (m new : Machine) → Act m new → Seats m → Logged m → Lo
 act_logged m new (LinkStands c pair ws link items) seats k = logged_with c pair _ m (logged_at c pair m k) k
 act_logged m new (TicketsEnd c test to) seats k = logged_tickets m _ k
 act_logged m new (ServerJoins c pair s none) seats k = logged_with c pair _ m (come_logged s (is_dual c m) none (logged_at c pair m k)) k
-act_logged m new (ServerStands c pair v whole lowest found) seats k = let o = logged_at c pair m k in
+act_logged m new (ServerStands c pair v whole lowest found swept) seats k = let o = logged_at c pair m k in
     logged_with c pair _ m (server_logged v (record v { whole = whole; lowest = lowest }) found refl (All_found (λ (w : Server). used_of (of c m).commits w ≤ 65536) (is_server v.number) (of c m).servers v found o.room) o) k
 act_logged m new (ServerDies c pair v found live) seats k = let o = logged_at c pair m k in
     logged_tickets _ _ (logged_with c pair _ m (server_logged v (record v { live = false }) found refl (All_found (λ (w : Server). used_of (of c m).commits w ≤ 65536) (is_server v.number) (of c m).servers v found o.room) o) k)
-act_logged m new (RegionsJoin c pair tables hs behind off more gone) seats k = logged_with c pair _ m (logged_at c pair m k) k
-act_logged m new (RegionTurns c pair h to found same turns) seats k = logged_with c pair _ m (logged_at c pair m k) k
+act_logged m new (RegionsJoin c pair tables hs behind off more gone closed) seats k = logged_with c pair _ m (logged_at c pair m k) k
+act_logged m new (RegionTurns c pair h to found same turns opens) seats k = logged_with c pair _ m (logged_at c pair m k) k
 act_logged m new (EntryPends c pair v x whole served room none titled) seats k = logged_with c pair _ m (pend_logged v x whole served.found room (logged_at c pair m k)) k
 act_logged m new (PutPends c pair v x served room ticket titled) seats k = logged_tickets _ _ (logged_with c pair _ m (pend_logged v x true served.found room (logged_at c pair m k)) k)
 act_logged m new (EntriesCommit c pair v to xs ts commits) seats k =
     subst Logged (sym (entries_committed c v.number v.log to xs ts m)) (logged_tickets _ _ (logged_with c pair _ m (commit_logged c m v to xs ts commits (seats_at c pair m seats) (logged_at c pair m k)) k))
 act_logged m new (PeerJoins c pair p kind tables none there) seats k = logged_with c pair _ m (logged_at c pair m k) k
-act_logged m new (PeerStands c pair x to found same sync covers) seats k = logged_with c pair _ m (logged_at c pair m k) k
+act_logged m new (PeerStands c pair x to found same sync covers wide) seats k = logged_with c pair _ m (logged_at c pair m k) k
 act_logged m new (PeerLeaves c pair x found plain) seats k = logged_with c pair _ m (logged_at c pair m k) k
 act_logged m new (PeersRestart c pair) seats k = logged_with c pair _ m (logged_at c pair m k) k
 act_logged m new (QueueStands c pair q to found) seats k = logged_with c pair _ m (logged_at c pair m k) k

@@ -293,10 +293,10 @@ act_promises m new (TicketsEnd c test to) seats k = record {
   b = told_side B m.b.servers m.tickets _ (λ v i x j n e q. waiting_same c test to m.tickets (n - 1) B v.live q) k.b;
 }
 act_promises m new (ServerJoins c pair s none) seats k = promises_side c pair _ m (come_promise (new_server s (is_dual c m)) refl (promises_at c pair m k)) k
-act_promises m new (ServerStands c pair v whole lowest found) seats k = promises_side c pair _ m (stand_promise v whole lowest found (promises_at c pair m k)) k
+act_promises m new (ServerStands c pair v whole lowest found swept) seats k = promises_side c pair _ m (stand_promise v whole lowest found (promises_at c pair m k)) k
 act_promises m new (ServerDies c pair v found live) seats k = die_promise c pair m v _ _ refl found live seats k
-act_promises m new (RegionsJoin c pair tables hs behind off more gone) seats k = promises_side c pair _ m (promises_at c pair m k) k
-act_promises m new (RegionTurns c pair h to found same turns) seats k = promises_side c pair _ m (promises_at c pair m k) k
+act_promises m new (RegionsJoin c pair tables hs behind off more gone closed) seats k = promises_side c pair _ m (promises_at c pair m k) k
+act_promises m new (RegionTurns c pair h to found same turns opens) seats k = promises_side c pair _ m (promises_at c pair m k) k
 act_promises m new (EntryPends c pair v x whole served room none titled) seats k = promises_side c pair _ m (pend_promise v x whole served.found none (promises_at c pair m k)) k
 act_promises m new (PutPends c pair v x served room ticket titled) seats k =
     let side : Side = record (of c m) { servers = replace (is_server v.number) (takes_pending x true v) (of c m).servers } in
@@ -305,7 +305,7 @@ act_promises m new (PutPends c pair v x served room ticket titled) seats k =
     (told_side (other c) (of (other c) m).servers m.tickets _ (λ w i y j n e q. slot_more m.tickets (ticket_of c true ∷ []) (n - 1) (ticket_of (other c) w.live) q) (promises_at (other c) (other_paired c pair) m k)))
 act_promises m new (EntriesCommit c pair v to xs ts commits) seats k = subst Promises (sym (entries_committed c v.number v.log to xs ts m)) (commit_promise c pair m v to xs ts commits seats k)
 act_promises m new (PeerJoins c pair p kind tables none there) seats k = promises_side c pair _ m (promises_at c pair m k) k
-act_promises m new (PeerStands c pair x to found same sync covers) seats k = promises_side c pair _ m (promises_at c pair m k) k
+act_promises m new (PeerStands c pair x to found same sync covers wide) seats k = promises_side c pair _ m (promises_at c pair m k) k
 act_promises m new (PeerLeaves c pair x found plain) seats k = promises_side c pair _ m (promises_at c pair m k) k
 act_promises m new (PeersRestart c pair) seats k = promises_side c pair _ m (promises_at c pair m k) k
 act_promises m new (QueueStands c pair q to found) seats k = promises_side c pair _ m (promises_at c pair m k) k

@@ -215,7 +215,7 @@ restart_has servers v i unsealed n (p ∷ ps) qs h = cond_both (is_synchronous p
     ]))
     (λ _. restart_has servers v i unsealed n ps qs h)
 
-restart_standing : (n : ℕ) (x : Peer) → is_removed (restarted n x).standing ≡ is_removed x.standing
+pub restart_standing : (n : ℕ) (x : Peer) → is_removed (restarted n x).standing ≡ is_removed x.standing
 restart_standing n x = cond_both (is_synchronous x.kind) (record x { start = n; serial_start = n }) x (λ (y : Peer). is_removed y.standing ≡ is_removed x.standing) (λ _. refl) (λ _. refl)
 
 restart_kind : (n : ℕ) (x : Peer) → is_synchronous (restarted n x).kind ≡ is_synchronous x.kind
@@ -224,7 +224,7 @@ restart_kind n x = cond_both (is_synchronous x.kind) (record x { start = n; seri
 restart_same : (n : ℕ) (x : Peer) → (restarted n x).number ≡ x.number
 restart_same n x = cond_both (is_synchronous x.kind) (record x { start = n; serial_start = n }) x (λ (y : Peer). y.number ≡ x.number) (λ _. refl) (λ _. refl)
 
-in_restarted : (n : ℕ) (p : Peer) (ps : List Peer) → In p (map (restarted n) ps) → (x : Peer) × In x ps × (p ≡ restarted n x)
+pub in_restarted : (n : ℕ) (p : Peer) (ps : List Peer) → In p (map (restarted n) ps) → (x : Peer) × In x ps × (p ≡ restarted n x)
 in_restarted n p [] i = absurd i
 in_restarted n p (y ∷ ps) i = elim i [ inl e ↦ (y, inl refl, e) | inr r ↦ (let h = in_restarted n p ps r in (h.0, inr h.1, h.2)) ]
 
@@ -277,17 +277,17 @@ pub act_queued : (m new : Machine) → Act m new → Queued m → Queued new
 act_queued m new (LinkStands c pair ws link items) k = queued_with c pair _ m (queued_at c pair m k) k
 act_queued m new (TicketsEnd c test to) k = queued_tickets m _ k
 act_queued m new (ServerJoins c pair s none) k = queued_with c pair _ m (come_queued s (is_dual c m) (queued_at c pair m k)) k
-act_queued m new (ServerStands c pair v whole lowest found) k = queued_with c pair _ m (server_queued v (record v { whole = whole; lowest = lowest }) found (λ h. h) (queued_at c pair m k)) k
+act_queued m new (ServerStands c pair v whole lowest found swept) k = queued_with c pair _ m (server_queued v (record v { whole = whole; lowest = lowest }) found (λ h. h) (queued_at c pair m k)) k
 act_queued m new (ServerDies c pair v found live) k = queued_tickets _ _ (queued_with c pair _ m (server_queued v (record v { live = false }) found (λ h. h) (queued_at c pair m k)) k)
-act_queued m new (RegionsJoin c pair tables hs behind off more gone) k = queued_with c pair _ m (queued_at c pair m k) k
-act_queued m new (RegionTurns c pair h to found same turns) k = queued_with c pair _ m (queued_at c pair m k) k
+act_queued m new (RegionsJoin c pair tables hs behind off more gone closed) k = queued_with c pair _ m (queued_at c pair m k) k
+act_queued m new (RegionTurns c pair h to found same turns opens) k = queued_with c pair _ m (queued_at c pair m k) k
 act_queued m new (EntryPends c pair v x whole served room none titled) k = queued_with c pair _ m (server_queued v (takes_pending x whole v) served.found (λ h. h) (queued_at c pair m k)) k
 act_queued m new (PutPends c pair v x served room ticket titled) k = queued_tickets _ _ (queued_with c pair _ m (server_queued v (takes_pending x true v) served.found (λ h. h) (queued_at c pair m k)) k)
 act_queued m new (EntriesCommit c pair v to xs ts commits) k =
     let o = server_queued v to (ap (λ n. find (is_server n) (of c m).servers) commits.number ∙ commits.found) commits.opens (queued_at c pair m k) in
     subst Queued (sym (entries_committed c v.number v.log to xs ts m)) (queued_tickets _ _ (queued_with c pair _ m o k))
 act_queued m new (PeerJoins c pair p kind tables none there) k = queued_with c pair _ m (join_queued (new_peer p kind tables (length (of c m).commits)) none refl (queued_at c pair m k)) k
-act_queued m new (PeerStands c pair x to found same sync covers) k = queued_with c pair _ m (peer_queued x to found same sync (queued_at c pair m k)) k
+act_queued m new (PeerStands c pair x to found same sync covers wide) k = queued_with c pair _ m (peer_queued x to found same sync (queued_at c pair m k)) k
 act_queued m new (PeerLeaves c pair x found plain) k = queued_with c pair _ m (leave_queued x found plain (queued_at c pair m k)) k
 act_queued m new (PeersRestart c pair) k = queued_with c pair _ m (restart_queued (length (of c m).commits) (queued_at c pair m k)) k
 act_queued m new (QueueStands c pair q to found) k = queued_with c pair _ m (stand_queued q to found (queued_at c pair m k)) k

@@ -367,17 +367,17 @@ pub act_seats : (m new : Machine) → Act m new → Seats m → Seats new
 act_seats m new (LinkStands c pair ws link items) k = seats_with c pair _ m (seats_at c pair m k) k
 act_seats m new (TicketsEnd c test to) k = seats_tickets m _ k
 act_seats m new (ServerJoins c pair s none) k = seats_with c pair _ m (come_seats s (is_dual c m) none (seats_at c pair m k)) k
-act_seats m new (ServerStands c pair v whole lowest found) k = let o = seats_at c pair m k in
+act_seats m new (ServerStands c pair v whole lowest found swept) k = let o = seats_at c pair m k in
     seats_with c pair _ m (server_seats v (record v { whole = whole; lowest = lowest }) found refl (All_found Rests (is_server v.number) (of c m).servers v found o.resting) (All_found (AllPlaced (of c m).regions) (is_server v.number) (of c m).servers v found o.placed) o) k
 act_seats m new (ServerDies c pair v found live) k = seats_tickets _ _ (seats_with c pair _ m (die_seats v found (seats_at c pair m k)) k)
-act_seats m new (RegionsJoin c pair tables hs behind off more gone) k = seats_with c pair _ m (join_seats hs behind off gone (seats_at c pair m k)) k
-act_seats m new (RegionTurns c pair h to found same turns) k = seats_with c pair _ m (turn_seats c m h to found same turns (seats_at c pair m k)) k
+act_seats m new (RegionsJoin c pair tables hs behind off more gone closed) k = seats_with c pair _ m (join_seats hs behind off gone (seats_at c pair m k)) k
+act_seats m new (RegionTurns c pair h to found same turns opens) k = seats_with c pair _ m (turn_seats c m h to found same turns (seats_at c pair m k)) k
 act_seats m new (EntryPends c pair v x whole served room none titled) k = seats_with c pair _ m (pend_seats c m v x whole served (seats_at c pair m k)) k
 act_seats m new (PutPends c pair v x served room ticket titled) k = seats_tickets _ _ (seats_with c pair _ m (pend_seats c m v x true served (seats_at c pair m k)) k)
 act_seats m new (EntriesCommit c pair v to xs ts commits) k =
     subst Seats (sym (entries_committed c v.number v.log to xs ts m)) (seats_tickets _ _ (seats_with c pair _ m (commit_seats c m v to xs ts commits (seats_at c pair m k)) k))
 act_seats m new (PeerJoins c pair p kind tables none there) k = seats_with c pair _ m (seats_at c pair m k) k
-act_seats m new (PeerStands c pair x to found same sync covers) k = seats_with c pair _ m (seats_at c pair m k) k
+act_seats m new (PeerStands c pair x to found same sync covers wide) k = seats_with c pair _ m (seats_at c pair m k) k
 act_seats m new (PeerLeaves c pair x found plain) k = seats_with c pair _ m (seats_at c pair m k) k
 act_seats m new (PeersRestart c pair) k = seats_with c pair _ m (seats_at c pair m k) k
 act_seats m new (QueueStands c pair q to found) k = seats_with c pair _ m (seats_at c pair m k) k

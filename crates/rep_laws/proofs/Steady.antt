@@ -16,6 +16,8 @@ use Rattle.rep_laws.proofs.PromisePart.{Promises, PromiseSide, act_promises}
 use Rattle.rep_laws.proofs.QueuesPart.{Queued, QueueIn, act_queued}
 use Rattle.rep_laws.proofs.LogsPart.{Logged, LogIn, act_logged}
 use Rattle.rep_laws.proofs.TablesPart.{Tabled, TableIn, act_tabled, replays_tabled}
+use Rattle.rep_laws.proofs.LowestPart.{Lowest, LowestIn, act_lowest}
+use Rattle.rep_laws.proofs.OpensPart.{OpensReached, act_opens}
 
 pub record Steady (m : Machine) : Type 0 where
   pub seats : Seats m
@@ -24,6 +26,8 @@ pub record Steady (m : Machine) : Type 0 where
   pub queued : Queued m
   pub logged : Logged m
   pub tabled : Tabled m
+  pub lowest : Lowest m
+  pub opens : OpensReached m
 
 nothing_seated : SeatIn empty_side
 nothing_seated = record { servers_differ = tt; resting = tt; numbered = tt; working = tt; placed = tt; known = tt; parents = tt }
@@ -43,6 +47,9 @@ nothing_logged = record { begun = tt; within = tt; rising = tt; sequenced = tt; 
 nothing_tabled : TableIn empty_side
 nothing_tabled = record { pending = tt; committed = tt; written = tt }
 
+nothing_lowest : LowestIn empty_side
+nothing_lowest = record { kept = λ p v i j. absurd i; current = λ v i. absurd i }
+
 opening_steady : Steady opening
 opening_steady = record {
   seats = record { a = nothing_seated; b = nothing_seated };
@@ -51,6 +58,8 @@ opening_steady = record {
   queued = record { a = nothing_queued; b = nothing_queued };
   logged = record { a = nothing_logged; b = nothing_logged };
   tabled = record { a = nothing_tabled; b = nothing_tabled; a_covers = tt; b_covers = tt };
+  lowest = record { a = nothing_lowest; b = nothing_lowest };
+  opens = record { a = tt; b = tt };
 }
 
 acts_steady : (m new : Machine) → Acts m new → Steady m → Steady new
@@ -62,6 +71,8 @@ acts_steady m new (After xs x) k = let mid = acts_steady m _ xs k in record {
   queued = act_queued _ _ x mid.queued;
   logged = act_logged _ _ x mid.seats mid.logged;
   tabled = act_tabled _ _ x mid.tabled;
+  lowest = act_lowest _ _ x mid.seats mid.logged mid.lowest;
+  opens = act_opens _ _ x mid.opens;
 }
 
 steady_from : (rs : List Record) (m : Machine) (n : Counts) → Lawful m → Steady m → LegalFrom m n rs → Steady (state_from m rs)

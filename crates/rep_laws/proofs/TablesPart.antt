@@ -166,27 +166,27 @@ act_tabled m new (TicketsEnd c test to) k = tabled_tickets m _ k
 act_tabled m new (ServerJoins c pair s none) k =
     let o = tabled_at c pair m k in
     tabled_with c pair _ m (record { pending = All_append AllTabled (of c m).servers (new_server s (is_dual c m) ∷ []) o.pending (tt, tt); committed = o.committed; written = o.written }) (covers_at c pair m k) (λ name h. h) k
-act_tabled m new (ServerStands c pair v whole lowest found) k =
+act_tabled m new (ServerStands c pair v whole lowest found swept) k =
     let o = tabled_at c pair m k in
     tabled_with c pair _ m (server_tabled (record v { whole = whole; lowest = lowest }) (All_found AllTabled (is_server v.number) (of c m).servers v found o.pending) o) (covers_at c pair m k) (λ name h. h) k
 act_tabled m new (ServerDies c pair v found live) k =
     let o = tabled_at c pair m k in
     tabled_tickets _ _ (tabled_with c pair _ m (server_tabled (record v { live = false }) (All_found AllTabled (is_server v.number) (of c m).servers v found o.pending) o) (covers_at c pair m k) (λ name h. h) k)
-act_tabled m new (RegionsJoin c pair tables hs behind off more gone) k =
+act_tabled m new (RegionsJoin c pair tables hs behind off more gone closed) k =
     let o = tabled_at c pair m k in
     tabled_with c pair _ m (record {
       pending = o.pending;
       committed = o.committed;
       written = All_weaker (λ w h. elim h [ inl t ↦ inl t | inr t ↦ inr (more w.edit.table t) ]) (of c m).written o.written;
     }) (covers_at c pair m k) more k
-act_tabled m new (RegionTurns c pair h to found same turns) k = tabled_with c pair _ m (tabled_at c pair m k) (covers_at c pair m k) (λ name h. h) k
+act_tabled m new (RegionTurns c pair h to found same turns opens) k = tabled_with c pair _ m (tabled_at c pair m k) (covers_at c pair m k) (λ name h. h) k
 act_tabled m new (EntryPends c pair v x whole served room none titled) k = tabled_with c pair _ m (pend_tabled v x whole served.found titled (tabled_at c pair m k)) (covers_at c pair m k) (λ name h. h) k
 act_tabled m new (PutPends c pair v x served room ticket titled) k = tabled_tickets _ _ (tabled_with c pair _ m (pend_tabled v x true served.found titled (tabled_at c pair m k)) (covers_at c pair m k) (λ name h. h) k)
 act_tabled m new (EntriesCommit c pair v to xs ts commits) k =
     subst Tabled (sym (entries_committed c v.number v.log to xs ts m)) (tabled_tickets _ _ (tabled_with c pair _ m (commit_tabled c m v to xs ts commits (tabled_at c pair m k)) (covers_at c pair m k) (λ name h. h) k))
 act_tabled m new (PeerJoins c pair p kind tables none there) k =
     tabled_with c pair _ m (tabled_at c pair m k) (All_append (Covers (of (other c) m).tables) (of c m).peers (new_peer p kind tables (length (of c m).commits) ∷ []) (covers_at c pair m k) (there, tt)) (λ name h. h) k
-act_tabled m new (PeerStands c pair x to found same sync covers) k = tabled_with c pair _ m (tabled_at c pair m k) (covers_replaced (of (other c) m).tables x to (of c m).peers found covers (covers_at c pair m k)) (λ name h. h) k
+act_tabled m new (PeerStands c pair x to found same sync covers wide) k = tabled_with c pair _ m (tabled_at c pair m k) (covers_replaced (of (other c) m).tables x to (of c m).peers found covers (covers_at c pair m k)) (λ name h. h) k
 act_tabled m new (PeerLeaves c pair x found plain) k =
     tabled_with c pair _ m (tabled_at c pair m k) (covers_replaced (of (other c) m).tables x (record x { standing = standing.Removed }) (of c m).peers found refl (covers_at c pair m k)) (λ name h. h) k
 act_tabled m new (PeersRestart c pair) k = tabled_with c pair _ m (tabled_at c pair m k) (restarted_covers (of (other c) m).tables (length (of c m).commits) (of c m).peers (covers_at c pair m k)) (λ name h. h) k

@@ -1,4 +1,4 @@
-use Rattle.std.proofs.Common.{ℕ, ◌-◌, ◌≡◌, List, Result, Ok, Err, set, ap, ◌∙◌}
+use Rattle.std.proofs.Common.{ℕ, ◌-◌, ◌≡◌, Result, Ok, Err, set, ap, ◌∙◌}
 use Rattle.std.specs.Prelude.{OnOk}
 use Rattle.region_barriers.specs.History.{History}
 use Rattle.cluster_core.specs.declared.parts.Trace.{Trace}

@@ -1,4 +1,4 @@
--- The tickets that a sync acknowledges are those of the pending entries, in order.
+-- The tickets that a commit of all that is pending acknowledges are those of the pending entries, in order.
 use Rattle.std.proofs.Common.{ℕ, zero, suc, ◌+◌, ◌-◌, ◌≤◌, ◌≡◌, ◌&&◌, inl, inr, not, Bool, true, false, cond, List, [], ◌∷◌, ◌++◌, slice_get, set, find, Option, Some, None, refl, ap, sym, ◌∙◌, subst, arith}
 use Rattle.std.proofs.lemmas.Bool.{cases_eq}
 use Rattle.std.specs.List.{AllByRecursion}
