@@ -28,6 +28,7 @@ use Rattle.rep_laws.proofs.CitedMore.{flight_is_slot, flight_0_is_none}
 use Rattle.rep_laws.proofs.Lists.{In, in_all, found_in, found_passes, All_weaker}
 use Rattle.rep_laws.proofs.Numbering.{Numbered, length_mapped}
 use Rattle.rep_laws.proofs.Sides.{twice, of_flights}
+use Rattle.rep_laws.proofs.Steady.{steady_journal}
 use Rattle.cluster_core.specs.declared.parts.ClusterCore.{ClusterCore}
 use Rattle.cluster_core.specs.declared.parts.CoreError.{CoreError}
 use Rattle.cluster_core.specs.declared.parts.CoreError.TheVariants as failed
@@ -39,7 +40,6 @@ use Rattle.cluster_core.proofs.Answering.{refused}
 use Rattle.arrival_events.specs.Arriving.{MayArrive}
 use Rattle.arrival_events.specs.Delivering.{IsSink, IsPlace, Delivers, DeliversOr}
 use Rattle.arrival_events.proofs.Forms.{forms_may}
-use Rattle.arrival_events.proofs.Midway.{midway_first}
 
 -- ---- flights by place
 
@@ -126,7 +126,7 @@ module _ (own : Cluster) (c : Contents) (core : ClusterCore) (fs : List Sent) (k
     marked left at same number less =
         let g : Flight = record f { delivered = true } in
         let within : at < length m.flights = subst (λ n. at < n) (ap length sink.flights_are ∙ length_mapped sent_of m.flights) less in
-        let numbered : Numbered 1 (map (λ (x : Flight). x.number) m.flights) = (midway_first own pair m sink.reached).steady.flights in
+        let numbered : Numbered 1 (map (λ (x : Flight). x.number) m.flights) = subst (λ (w : Machine). Numbered 1 (map (λ (x : Flight). x.number) w.flights)) sink.reached.2 (steady_journal sink.reached.0 sink.reached.1).flights in
         let next : suc at ≡ 1 + at = omega arith in
         let placed : replace (is_flight k) g m.flights ≡ set m.flights at g = ap (λ n. replace (is_flight n) g m.flights) (number ∙ next) ∙ replace_slot (λ (x : Flight). x.number) 1 m.flights at g numbered within in
         let now : (with_delivered k left).flights ≡ replace (is_flight k) g m.flights =

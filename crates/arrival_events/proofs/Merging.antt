@@ -14,7 +14,7 @@ use Rattle.rep_model.specs.declared.machine.Told.TheVariants as told
 use Rattle.rep_laws.proofs.Lists.{In, in_all}
 use Rattle.rep_laws.proofs.PromisePart.{Precedes, Rises}
 use Rattle.cluster_core.specs.Entries.{tickets_of}
-use Rattle.log_events.proofs.Acknowledged.{Ascends, tell_from, plain_from, tell_behind}
+use Rattle.cluster_core.proofs.Acknowledged.{Ascends, tell_from, plain_from}
 use Rattle.arrival_events.specs.Acks.{is_above, put_in}
 use Rattle.arrival_events.specs.Arriving.{Waited}
 
@@ -112,6 +112,15 @@ told_first b t ts p =
 
 waits_first : (b : ℕ) (t : Ticket) (ts : List Ticket) → Waits b (t ∷ ts) b → t.told ≡ told.Pending
 waits_first b t ts w = ap (λ (u : Ticket). u.told) (same_Some t w.0 (subst (λ n. slice_get (t ∷ ts) n ≡ Some w.0) (no_less b) w.1)) ∙ w.2
+
+-- the first stays where a later ticket is told
+tell_behind : (b k : ℕ) (t : Ticket) (ts : List Ticket) → suc b ≤ k → tell_from b k (t ∷ ts) ≡ t ∷ tell_from (suc b) k ts
+unfolding given
+tell_behind b k t ts h = ap (λ n. given (slice_get (t ∷ ts) n) (t ∷ ts) (λ u. set (t ∷ ts) n (record u { told = unless_told told.Plain u.told }))) (less_one b k h) ∙ by_found (slice_get ts (k - suc b))
+  where
+    by_found : (o : Option Ticket) → given o (t ∷ ts) (λ u. t ∷ set ts (k - suc b) (record u { told = unless_told told.Plain u.told })) ≡ t ∷ given o ts (λ u. set ts (k - suc b) (record u { told = unless_told told.Plain u.told }))
+    by_found None = refl
+    by_found (Some u) = refl
 
 plain_is_told : told.Plain ≡ told.Pending → ⊥
 plain_is_told e = subst (λ (w : Told). is_pending w) (sym e) tt

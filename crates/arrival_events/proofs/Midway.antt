@@ -23,14 +23,11 @@ use Rattle.rep_laws.proofs.ActForms.{on_is}
 use Rattle.rep_laws.proofs.Finding.{All_replaced}
 use Rattle.rep_laws.proofs.FrontPart.{Different}
 use Rattle.rep_laws.proofs.Lists.{In, in_all, found_in, All_weaker, All_found}
-use Rattle.rep_laws.proofs.FlightsPart.{act_flights}
-use Rattle.rep_laws.proofs.LogsPart.{logged_at, act_logged}
-use Rattle.rep_laws.proofs.PromisePart.{act_promises}
-use Rattle.rep_laws.proofs.QueuesPart.{act_queued}
-use Rattle.rep_laws.proofs.SeatPart.{SeatIn, Works, seats_at, region_found, act_seats}
+use Rattle.rep_laws.proofs.LogsPart.{Logged, logged_at, act_logged}
+use Rattle.rep_laws.proofs.PromisePart.{Promises, act_promises}
+use Rattle.rep_laws.proofs.SeatPart.{SeatIn, Seats, Works, seats_at, region_found, act_seats}
 use Rattle.rep_laws.proofs.Steady.{Steady, steady_journal}
 use Rattle.rep_laws.proofs.Steps.{numbers_replaced}
-use Rattle.rep_laws.proofs.TablesPart.{act_tabled}
 use Rattle.cluster_core.specs.declared.parts.Index.{Index}
 use Rattle.cluster_core.specs.declared.parts.Station.{Station}
 use Rattle.cluster_core.specs.declared.parts.Trace.{Trace}
@@ -82,27 +79,32 @@ turned_orderly side next C ws o grown placed dead fits = record {
   recorded = All_weaker (λ (p : Peer) h. All_weaker (λ (x : Commit) g. upto x.seq (commit_count x.region.number side.commits) (commit_count x.region.number C) g (grown.counted x.region.number)) p.recorded h) side.peers o.recorded;
 }
 
-acts_steady : (m new : Machine) → Acts m new → Steady m → Steady new
-acts_steady m new Nothing k = k
-acts_steady m new (After xs x) k = let mid = acts_steady m _ xs k in record {
+pub midway_first : (own : Cluster) → is_paired own ≡ true → (m : Machine) → Reached m → IsMidway own m
+midway_first own pair m reached =
+    let steady : Steady m = subst (λ (k : Machine). Steady k) reached.2 (steady_journal reached.0 reached.1) in
+    record { seats = steady.seats; promises = steady.promises; logged = steady.logged; orderly = orderly own pair m reached }
+
+-- what acts keep of that
+record Keeps (m : Machine) : Type 0 where
+  pub seats : Seats m
+  pub promises : Promises m
+  pub logged : Logged m
+
+acts_keep : (m new : Machine) → Acts m new → Keeps m → Keeps new
+acts_keep m new Nothing k = k
+acts_keep m new (After xs x) k = let mid = acts_keep m _ xs k in record {
   seats = act_seats _ _ x mid.seats;
-  flights = act_flights _ _ x mid.flights;
   promises = act_promises _ _ x mid.seats mid.promises;
-  queued = act_queued _ _ x mid.queued;
   logged = act_logged _ _ x mid.seats mid.logged;
-  tabled = act_tabled _ _ x mid.tabled;
 }
 
-pub midway_first : (own : Cluster) → is_paired own ≡ true → (m : Machine) → Reached m → IsMidway own m
-midway_first own pair m reached = record { steady = subst (λ (k : Machine). Steady k) reached.2 (steady_journal reached.0 reached.1); orderly = orderly own pair m reached }
-
--- and so is a state that acts lead to, where a server of the cluster stands so, and there are more commits
+-- so it is with a state that acts lead to, where a server of the cluster stands so, and there are more commits
 pub midway_next : (own : Cluster) → is_paired own ≡ true → (m after : Machine) (next : Server) (C : List Commit) (ws : List Written) → IsMidway own m → Acts m after
     → of own after ≡ record (of own m) { commits = C; written = ws; servers = replace (is_server next.number) next (of own m).servers } → Grown (of own m).commits C → ArePlaced (of own m).regions next.number next.pending → (next.sealed ≡ true → next.live ≡ false) → IsMidway own after
 midway_next own pair m after next C ws way acts is grown placed dead =
-    let steady : Steady after = acts_steady m after acts way.steady in
-    let fits : AllByRecursion (FitsLog C) (replace (is_server next.number) next (of own m).servers) = subst (λ (s : Side). AllByRecursion (FitsLog s.commits) s.servers) is (logged_at own pair after steady.logged).room in
-    record { steady = steady; orderly = subst IsOrderly (sym is) (turned_orderly (of own m) next C ws way.orderly grown placed dead fits) }
+    let keeps : Keeps after = acts_keep m after acts (record { seats = way.seats; promises = way.promises; logged = way.logged }) in
+    let fits : AllByRecursion (FitsLog C) (replace (is_server next.number) next (of own m).servers) = subst (λ (s : Side). AllByRecursion (FitsLog s.commits) s.servers) is (logged_at own pair after keeps.logged).room in
+    record { seats = keeps.seats; promises = keeps.promises; logged = keeps.logged; orderly = subst IsOrderly (sym is) (turned_orderly (of own m) next C ws way.orderly grown placed dead fits) }
 
 -- ---- a seat
 
@@ -121,7 +123,7 @@ its_number r least = omega arith
 
 module _ (own : Cluster) (pair : is_paired own ≡ true) (m : Machine) (way : IsMidway own m) (files : Contents) (stations : List Station) (table row : List ℕ) (region at : ℕ) (k : HasSeat files (of own m) stations table row region at) where
   seats : SeatIn (of own m)
-  seats = seats_at own pair m way.steady.seats
+  seats = seats_at own pair m way.seats
 
   hosted_in : In k.hosted (of own m).regions
   hosted_in = found_in (serves table row) (of own m).regions k.hosted k.located

@@ -1,5 +1,5 @@
 -- Faults that are told, from an earlier count on.
-use Rattle.std.proofs.Common.{ℕ, ◌+◌, ◌<◌, ◌≤◌, ◌≡◌, subst, arith, Result, Ok, Err}
+use Rattle.std.proofs.Common.{ℕ, ◌+◌, ◌<◌, ◌≤◌, ◌≡◌, List, refl, sym, subst, arith, Result, Ok, Err}
 use Rattle.std.specs.Prelude.{IfOk}
 use Rattle.rep_types.specs.declared.ids.Cluster.{Cluster}
 use Rattle.rep_types.specs.declared.state.Call.{Call}
@@ -9,9 +9,12 @@ use Rattle.rep_types.specs.declared.reply.Cause.TheVariants as cause
 use Rattle.rep_vault.specs.Tallies.{Tally, total}
 use Rattle.cluster_core.specs.declared.parts.CoreError.{CoreError}
 use Rattle.cluster_core.specs.Does.{Counts, CauseTold}
+use Rattle.cluster_core.specs.declared.entering.EntryError.{EntryError}
+use Rattle.cluster_core.specs.declared.entering.EntryError.TheVariants.{Broken, NeedRoll, StoreFault, Memory}
+use Rattle.wal_roll.specs.Blamed.{IsFault}
 use Rattle.arrival_events.specs.Arriving.{ArrivalTold}
+use Rattle.arrival_events.specs.Entered.{arrived_by}
 use Rattle.arrival_events.specs.declared.arriving.Arrived.{Arrived}
-use Rattle.arrival_events.specs.declared.arriving.Arrived.TheVariants.{Taken, Stopped}
 
 sum_kept : (a b c d e f g h i j a' b' c' d' e' f' g' h' i' j' : ℕ) → a ≤ a' → b ≤ b' → c ≤ c' → d ≤ d' → e ≤ e' → f ≤ f' → g ≤ g' → h ≤ h' → i ≤ i' → j ≤ j'
     → a + b + c + d + e + f + g + h + i + j ≤ a' + b' + c' + d' + e' + f' + g' + h' + i' + j'
@@ -36,11 +39,14 @@ cause_later own (cause.NotServing region) old mid new kept t = tt
 cause_later own (cause.Broken log) old mid new kept t = tt
 cause_later own (cause.NeedRoll server used need) old mid new kept t = tt
 
-later : (own : Cluster) (r : Result Arrived CoreError) (old mid new : Tally) → ((k : Call) → old.faults k ≤ mid.faults k) → IfOk r (λ a. ArrivalTold own a mid new) → IfOk r (λ a. ArrivalTold own a old new)
-later own (Ok (Taken tickets)) old mid new kept t = tt
-later own (Ok (Stopped why)) old mid new kept t = cause_later own why old mid new kept t
-later own (Err e) old mid new kept t = tt
-
--- also where memory tells the cluster
-pub told_later : (own c : Cluster) → c ≡ own → (r : Result Arrived CoreError) (old mid new : Tally) → ((k : Call) → old.faults k ≤ mid.faults k) → IfOk r (λ a. ArrivalTold c a mid new) → IfOk r (λ a. ArrivalTold own a old new)
-told_later own c is r old mid new kept t = later own r old mid new kept (subst (λ (x : Cluster). IfOk r (λ a. ArrivalTold x a mid new)) is t)
+-- a fault of the entry is told of the cluster's own store
+pub told_by : (own : Cluster) (server log : ℕ) (r : Result (List ℕ) EntryError) (result : Result Arrived CoreError) (old new : Tally) → result ≡ arrived_by own server log r
+    → ((k : Call) (n : ℕ) → r ≡ Err (StoreFault k n) → IsFault k n old new) → IfOk result (λ a. ArrivalTold own a old new)
+told_by own server log r result old new is fault = subst (λ (x : Result Arrived CoreError). IfOk x (λ a. ArrivalTold own a old new)) (sym is) (by r fault)
+  where
+    by : (q : Result (List ℕ) EntryError) → ((k : Call) (n : ℕ) → q ≡ Err (StoreFault k n) → IsFault k n old new) → IfOk (arrived_by own server log q) (λ a. ArrivalTold own a old new)
+    by (Ok acks) f = tt
+    by (Err Broken) f = tt
+    by (Err (NeedRoll used need)) f = tt
+    by (Err (StoreFault k n)) f = let b = f k n refl in record { store_is = refl; kind = b.kind; count = b.count; rose = b.rose }
+    by (Err (Memory changed)) f = tt

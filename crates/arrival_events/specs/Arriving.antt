@@ -17,7 +17,9 @@ use Rattle.rep_model.specs.declared.machine.Form.{Form}
 use Rattle.rep_model.specs.declared.machine.Machine.{Machine}
 use Rattle.rep_model.specs.declared.machine.Ticket.{Ticket}
 use Rattle.rep_model.specs.declared.machine.Told.TheVariants as told
-use Rattle.rep_laws.proofs.Steady.{Steady}
+use Rattle.rep_laws.proofs.LogsPart.{Logged}
+use Rattle.rep_laws.proofs.PromisePart.{Promises}
+use Rattle.rep_laws.proofs.SeatPart.{Seats}
 use Rattle.cluster_core.specs.declared.parts.ClusterCore.{ClusterCore}
 use Rattle.cluster_core.specs.declared.parts.CoreError.{CoreError}
 use Rattle.cluster_core.specs.declared.parts.CoreError.TheVariants as failed
@@ -36,9 +38,11 @@ arriving_entry region seq peer form = record { region = region; seq = seq; kind 
 abbrev pub MayArrive : Form → Type 0
 MayArrive form = (peer region seq : ℕ) → 1 ≤ peer → peer ≤ 4 → 1 ≤ region → region ≤ 4096 → 1 ≤ seq → seq < 2 ^ 64 → HasFrame (arriving_entry region seq peer form)
 
--- what holds of a state between two forms: all that acts keep
+-- what holds of a state between two forms, as of one that a legal run reaches
 pub record IsMidway (own : Cluster) (m : Machine) : Type 0 where
-  pub steady : Steady m
+  pub seats : Seats m
+  pub promises : Promises m
+  pub logged : Logged m
   pub orderly : IsOrderly (of own m)
 
 -- what is pending now wasn't acknowledged then

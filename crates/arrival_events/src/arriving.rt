@@ -1,31 +1,24 @@
 // A form arrives: it is appended to the log of the server that serves its row, and synced with all that is pending there.
-ghost use Rattle.std.specs.Prelude.{◌≡◌, ◌<◌, ℕ, false, IfOk, length, slice_get, Some};
-ghost use Rattle.rep_vault.specs.Contents.{Contents};
-ghost use Rattle.region_server.specs.Host.{Stands as HostStands};
+ghost use Rattle.std.specs.Prelude.{◌≡◌, ◌<◌, false, IfOk, length};
 ghost use Rattle.rep_model.specs.State.{of};
 ghost use Rattle.rep_model.specs.declared.machine.Machine.{Machine};
-ghost use Rattle.rep_model.specs.declared.machine.Side.{Side};
-ghost use Rattle.cluster_core.specs.declared.parts.Station.{Station};
-ghost use Rattle.cluster_core.specs.Lookups.{HasStation, HasSeat};
-ghost use Rattle.cluster_core.specs.Orderly.{IsOrderly};
+ghost use Rattle.cluster_core.specs.Lookups.{HasSeat};
 ghost use Rattle.cluster_core.specs.Stands.{Stands};
 ghost use Rattle.cluster_core.specs.Does.{Counts};
 ghost use Rattle.arrival_events.specs.Arriving.{arriving_entry, MayArrive, IsMidway, Arrives, ArrivalTold};
-ghost use Rattle.arrival_events.specs.Behind.{SyncsBehind, not_taken};
+ghost use Rattle.arrival_events.specs.Entered.{arrived_by};
 
 use cluster_core::{
-    ClusterCore, CommitError, CoreError, CurrentLog, Seat, accept, commit, current_log,
+    ClusterCore, CoreError, CurrentLog, EntryError, Seat, commit_entry, current_log,
     located_number, next_id, seat_of,
 };
-use region_server::Committed;
 use rep_model::Form;
 use rep_types::{
-    Call, Cause, Cluster, Duplicate, Entry, EntryKind, Memory, Origin, PeerId, Phase, RegionId,
+    Cause, Cluster, Duplicate, Entry, EntryKind, Memory, Origin, PeerId, Phase, RegionId,
     SyncState, Tickets,
 };
 use rep_vault::Vault;
 use std::alloc::Global;
-use wal_roll::LogError;
 
 /// What became of a form: it was committed, with the tickets of puts that were pending before it; or what stopped it.
 #[derive(Drop)]
@@ -56,54 +49,26 @@ fn arriving_entry(
     })
 }
 
-fn tickets_of(done: Committed) -> Tickets
-    ensures { result ≡ done.tickets }
-{
-    let Committed { tickets, .. } = done;
-    tickets
-}
-
-// Commits what is pending at the station, the form's entry last.
-fn sync_behind<V: Vault>(
-    core: &mut ClusterCore,
-    alloc: Global,
-    own: &mut V,
-    at: usize,
+// What became of the form, by what became of its entry.
+fn arrived_by(
+    done: Result<Tickets, EntryError>,
+    store: Cluster,
+    log: &CurrentLog,
 ) -> Result<Arrived, CoreError>
-    requires within { at < length core.old.stations }
-    requires stands { (st : Station) → slice_get core.old.stations at ≡ Some st → HostStands (V.contents own.old) st.host × (st.host.log.broken ≡ false) }
-    ensures does { (side : Side) (s : ℕ) (here : HasStation (V.contents own.old) side core.old.stations s at) → here.server.sealed ≡ false → IsOrderly side → Stands core.old.own (V.contents own.old) core.old side
-        → SyncsBehind core.old.own side here.server (V.contents own.new) core.new result }
-    ensures counts { Counts (V.tally own.old) (V.tally own.new) }
-    ensures told { IfOk result (λ arrived. ArrivalTold core.old.own arrived (V.tally own.old) (V.tally own.new)) }
+    ensures { result ≡ arrived_by store log.now.server log.now.number done }
 {
-    let store = core.own;
-    match commit(core, alloc, own, at) {
-        Ok(done) => Ok(Arrived::Taken(tickets_of(done))),
-        Err(CommitError::StoreFault { count }) => Ok(Arrived::Stopped(Cause::StoreFault {
-            store,
-            call: Call::Sync,
-            count,
-        })),
-        Err(CommitError::Memory { .. }) => Err(CoreError::Memory { changed: true }),
-    }
-}
-
-// Why the entry of a form wasn't appended.
-fn not_taken(why: LogError, store: Cluster, log: &CurrentLog) -> Result<Arrived, CoreError>
-    ensures { result ≡ not_taken store log.now.server log.now.number why }
-{
-    match why {
-        LogError::Broken => Ok(Arrived::Stopped(Cause::Broken { log: log.number })),
-        LogError::NeedRoll { used, need, .. } => Ok(Arrived::Stopped(Cause::NeedRoll {
+    match done {
+        Ok(tickets) => Ok(Arrived::Taken(tickets)),
+        Err(EntryError::Broken) => Ok(Arrived::Stopped(Cause::Broken { log: log.number })),
+        Err(EntryError::NeedRoll { used, need }) => Ok(Arrived::Stopped(Cause::NeedRoll {
             server: log.server,
             used,
             need,
         })),
-        LogError::StoreFault { call, count } => {
+        Err(EntryError::StoreFault { call, count }) => {
             Ok(Arrived::Stopped(Cause::StoreFault { store, call, count }))
         }
-        LogError::Memory => Err(CoreError::Memory { changed: false }),
+        Err(EntryError::Memory { changed }) => Err(CoreError::Memory { changed }),
     }
 }
 
@@ -135,10 +100,8 @@ fn take<V: Vault>(
         return Err(CoreError::Memory { changed: false });
     };
     let log = current_log(&core.stations, seat.station);
-    match accept(core, own, seat.station, entry, None) {
-        Ok(()) => sync_behind(core, alloc, own, seat.station),
-        Err(why) => not_taken(why, store, &log),
-    }
+    let done = commit_entry(core, alloc, own, seat.station, entry);
+    arrived_by(done, store, &log)
 }
 
 /// The form of a flight of this peer arrives, unless something stops it. A failed append or sync leaves the log broken and

@@ -119,18 +119,16 @@ pub fn deliver<V: Vault>(
         return Ok(Reply::Refused(Refusal::NoFlight));
     };
     let sent = sent_at(flights, at);
+    let forms = sent.forms.as_slice();
+    let done = match arrive_all(core, alloc, own, sent.peer, sent.synchronous, forms) {
+        Ok(done) => done,
+        Err(why) => return Err(why),
+    };
     let Delivered {
         arrived,
         acks,
         stop,
-    } = arrive_all(
-        core,
-        alloc,
-        own,
-        sent.peer,
-        sent.synchronous,
-        sent.forms.as_slice(),
-    )?;
+    } = done;
     match stop {
         Some(cause) => Ok(Reply::Stopped {
             index: arrived,

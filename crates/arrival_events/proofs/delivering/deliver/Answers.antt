@@ -1,5 +1,5 @@
 -- A delivery is the row's.
-use Rattle.std.proofs.Common.{◌≡◌, ℕ, List, Some, None, ap, sym, ◌∙◌, subst}
+use Rattle.std.proofs.Common.{◌≡◌, List, Some, Err, refl, ap, sym, ◌∙◌, subst}
 use Rattle.std.specs.List.{AllByRecursion}
 use Rattle.rep_types.specs.declared.ids.Cluster.{Cluster}
 use Rattle.rep_vault.specs.Contents.{Contents}
@@ -31,13 +31,13 @@ arrive_all-requires-clause-may g c =
     let fs : List Sent = c.args.flights.now in
     let there = taken_place fs c.in-Some.at c.in-Some.ensures.1 in
     let f = flight_at own old core fs c.args.flight s.0 s.1 c.in-Some.at there.0 c.in-Some.ensures.0 there.1 in
-    let is : c.as_slice.result.now ≡ flight_forms f.0 = c.as_slice.ensures ∙ ap (λ (x : Sent). x.forms) (c.sent_at-sent.ensures there.0 there.1 ∙ f.2) in
+    let is : c.as_slice-forms.result.now ≡ flight_forms f.0 = c.as_slice-forms.ensures ∙ ap (λ (x : Sent). x.forms) (c.sent_at-sent.ensures there.0 there.1 ∙ f.2) in
     subst (AllByRecursion MayArrive) (sym is) (may_arrive own old core fs c.args.flight s.0 s.1 f.0 f.1)
 
-pub returns-in_err-arrived-clause-does : goal.returns-in_err-arrived-clause-does
-returns-in_err-arrived-clause-does g c = λ m sink.
-    unfinished c.args.core.now.own c.args.flight _ _ _ m (g.V.Vault.contents c.args.own.now) c.args.core.now c.args.flights.now (g.V.Vault.contents c.arrive_all.new.own) c.arrive_all.new.core c.in_err-arrived.field-0 c.from_residual.result ?
-    (c.in_err-arrived.ensures.does m (midway_first c.args.core.now.own sink.stands.paired m sink.reached) sink.stands)
+pub returns-in-Err-clause-does : goal.returns-in-Err-clause-does
+returns-in-Err-clause-does g c = λ m sink.
+    unfinished c.args.core.now.own c.args.flight c.sent_at-sent.result.now.peer c.sent_at-sent.result.now.synchronous c.as_slice-forms.result.now m (g.V.Vault.contents c.args.own.now) c.args.core.now c.args.flights.now (g.V.Vault.contents c.arrive_all.new.own) c.arrive_all.new.core c.in-Err.why (Err c.in-Err.why) refl
+    (c.in-Err.ensures.does m (midway_first c.args.core.now.own sink.stands.paired m sink.reached) sink.stands)
 
 pub returns-in-Some-stop-clause-does : goal.returns-in-Some-stop-clause-does
 returns-in-Some-stop-clause-does g c = λ m sink.
@@ -50,9 +50,9 @@ returns-in-Some-stop-clause-does g c = λ m sink.
     let there = taken_place fs c.in-Some.at c.in-Some.ensures.1 in
     let f = flight_at own old core fs c.args.flight m sink c.in-Some.at there.0 c.in-Some.ensures.0 there.1 in
     let is : c.sent_at-sent.result.now ≡ sent_of f.0 = c.sent_at-sent.ensures there.0 there.1 ∙ f.2 in
-    let d = c.in_ok-arrived.ensures.does m (midway_first own sink.stands.paired m sink.reached) sink.stands in
-    let e = rw (c.as_slice.ensures, is, c.in-Some-stop.is) at d in
-    stopped_flies own old core fs c.args.flight m sink f.0 f.1 new w c.in_ok-arrived.field-0.arrived c.in_ok-arrived.field-0.acks c.in-Some-stop.cause e
+    let d = c.in-Ok.ensures.does m (midway_first own sink.stands.paired m sink.reached) sink.stands in
+    let e = rw (c.as_slice-forms.ensures, is, c.in-Some-stop.is) at d in
+    stopped_flies own old core fs c.args.flight m sink f.0 f.1 new w c.in-Ok.done.arrived c.in-Ok.done.acks c.in-Some-stop.cause e
 
 pub returns-in-None-clause-does : goal.returns-in-None-clause-does
 returns-in-None-clause-does g c = λ m sink.
@@ -65,7 +65,7 @@ returns-in-None-clause-does g c = λ m sink.
     let there = taken_place fs c.in-Some.at c.in-Some.ensures.1 in
     let f = flight_at own old core fs c.args.flight m sink c.in-Some.at there.0 c.in-Some.ensures.0 there.1 in
     let is : c.sent_at-sent.result.now ≡ sent_of f.0 = c.sent_at-sent.ensures there.0 there.1 ∙ f.2 in
-    let d = c.in_ok-arrived.ensures.does m (midway_first own sink.stands.paired m sink.reached) sink.stands in
-    let e = rw (c.as_slice.ensures, is, c.in-None.is) at d in
-    all_fly own old core fs c.args.flight m sink f.0 f.1 new w c.in-Some.at c.in_ok-arrived.field-0.arrived c.in_ok-arrived.field-0.acks c.mark.new.flights c.in-Some.ensures.0 c.in-Some.ensures.1
+    let d = c.in-Ok.ensures.does m (midway_first own sink.stands.paired m sink.reached) sink.stands in
+    let e = rw (c.as_slice-forms.ensures, is, c.in-None.is) at d in
+    all_fly own old core fs c.args.flight m sink f.0 f.1 new w c.in-Some.at c.in-Ok.done.arrived c.in-Ok.done.acks c.mark.new.flights c.in-Some.ensures.0 c.in-Some.ensures.1
     (c.mark.ensures (sent_of f.0) (there.1 ∙ ap Some f.2)) e
