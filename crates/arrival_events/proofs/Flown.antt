@@ -1,5 +1,5 @@
 -- A delivery as the event's row has it.
-use Rattle.std.proofs.Common.{ℕ, zero, suc, ◌+◌, ◌-◌, ◌<◌, ◌≤◌, ◌≡◌, ◌==◌, Bool, true, false, cond, List, [], ◌∷◌, map, find, length, slice_get, set, Option, Some, None, Result, Err, option_map, is_none, refl, ap, sym, ◌∙◌, subst, arith, eq-eqb, eqb-true, ne_eqb, IfSome}
+use Rattle.std.proofs.Common.{ℕ, zero, suc, ◌+◌, ◌<◌, ◌≡◌, ◌==◌, Bool, true, List, [], ◌∷◌, map, find, length, slice_get, set, Option, Some, None, Result, Err, option_map, is_none, refl, ap, sym, ◌∙◌, subst, arith, eq-eqb, ne_eqb, IfSome}
 use Rattle.std.specs.List.{AllByRecursion}
 use Rattle.std.proofs.lemmas.Bool.{cond-true, cond-false}
 use Rattle.std.proofs.lemmas.List.{map-set}
@@ -17,7 +17,6 @@ use Rattle.rep_model.specs.State.{of, other, is_flight, flight_of}
 use Rattle.rep_model.specs.Words.{is_paired}
 use Rattle.rep_model.specs.Row.{Row, answers, first, unless}
 use Rattle.rep_model.specs.Rows.{row}
-use Rattle.rep_model.specs.Tickets.{acks}
 use Rattle.rep_model.specs.QueueEvents.{Delivery, delivered, failing, delivery_row, with_delivered, flight_forms, deliver_row}
 use Rattle.rep_model.specs.declared.machine.Commit.{Commit}
 use Rattle.rep_model.specs.declared.machine.Flight.{Flight}
@@ -25,7 +24,7 @@ use Rattle.rep_model.specs.declared.machine.Form.{Form}
 use Rattle.rep_model.specs.declared.machine.Machine.{Machine}
 use Rattle.rep_laws.proofs.Cited.{flights_are_commits}
 use Rattle.rep_laws.proofs.CitedMore.{flight_is_slot, flight_0_is_none}
-use Rattle.rep_laws.proofs.Lists.{In, in_all, found_in, found_passes, All_weaker}
+use Rattle.rep_laws.proofs.Lists.{In, in_all, found_in, All_weaker}
 use Rattle.rep_laws.proofs.Numbering.{Numbered, length_mapped}
 use Rattle.rep_laws.proofs.Sides.{twice, of_flights}
 use Rattle.rep_laws.proofs.Steady.{steady_journal}

@@ -1,11 +1,11 @@
 -- The entries that the forms of a flight become have frames, where the entries that they were made of have.
-use Rattle.std.proofs.Common.{ℕ, zero, suc, ◌+◌, ◌<◌, ◌≤◌, ◌≡◌, ◌&&◌, not, Bool, true, false, List, [], ◌∷◌, filter, length, Option, Some, None, refl, ap, sym, ◌∙◌, subst, arith}
+use Rattle.std.proofs.Common.{ℕ, zero, suc, ◌+◌, ◌<◌, ◌≤◌, ◌≡◌, ◌&&◌, not, Bool, true, false, List, [], ◌∷◌, filter, length, Option, Some, None, refl, sym, subst, arith}
 use Rattle.std.specs.Prelude.{All}
 use Rattle.std.specs.List.{AllByRecursion}
 use Rattle.std.proofs.lemmas.Bool.{cond_both, true≢false}
 use Rattle.std.proofs.lemmas.List.Elements.{All-filter}
 use Rattle.std.proofs.lemmas.Option.{none-some, same_Some}
-use Rattle.rep_types.specs.Edit.{EditValue, IsEdit, cut, is_replicated}
+use Rattle.rep_types.specs.Edit.{EditValue, cut, is_replicated}
 use Rattle.rep_types.specs.declared.cell.Cell.{Cell}
 use Rattle.rep_types.specs.declared.ids.Cluster.{Cluster}
 use Rattle.rep_types.specs.declared.ids.Cluster.TheVariants.{A, B, C}

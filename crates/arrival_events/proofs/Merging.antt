@@ -1,6 +1,5 @@
 -- Which tickets are acknowledged since an earlier state, once those of a server's pending entries are.
 use Rattle.std.proofs.Common.{ℕ, zero, suc, ◌+◌, ◌-◌, ◌<◌, ◌≤◌, ◌≡◌, ◌&&◌, inl, inr, not, Bool, true, false, cond, List, [], ◌∷◌, ◌++◌, slice_get, set, fold, take, drop, length, le_refl, Option, Some, None, refl, ap, sym, ◌∙◌, subst, arith}
-use Rattle.std.specs.Prelude.{nat_lt}
 use Rattle.std.specs.List.{AllByRecursion, position_or_len}
 use Rattle.std.proofs.lemmas.Bool.{cases_eq, cond_both}
 use Rattle.std.proofs.lemmas.Bool.Decides.{nat_tests}
@@ -184,7 +183,6 @@ tell_aside k j ts n = by (slice_get ts (k - 1))
 
 apart_by_one : (k j : ℕ) → 1 ≤ k → suc k ≤ j → k - 1 ≡ j - 1 → ⊥
 apart_by_one k j h g e = omega arith
-
 
 wait_still : (k n : ℕ) (ks : List ℕ) (ts : List Ticket) → 1 ≤ k → suc k ≤ n → Ascends n ks → AllByRecursion (Waits 1 ts) ks → AllByRecursion (Waits 1 (tell_from 1 k ts)) ks
 wait_still k n [] ts least h d a = tt

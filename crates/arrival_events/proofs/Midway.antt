@@ -1,5 +1,5 @@
 -- States between two forms of a delivery: what holds of them, and what of a seat in one.
-use Rattle.std.proofs.Common.{ℕ, suc, ◌+◌, ◌-◌, ◌≤◌, ◌≡◌, ◌==◌, Bool, true, false, cond, List, ◌++◌, length, find, slice_get, Option, Some, None, option_map, refl, ap, sym, ◌∙◌, subst, arith, eq-eqb, length-append, le_refl}
+use Rattle.std.proofs.Common.{ℕ, suc, ◌+◌, ◌-◌, ◌≤◌, ◌≡◌, ◌==◌, Bool, true, false, cond, List, ◌++◌, length, find, slice_get, Some, option_map, refl, ap, sym, ◌∙◌, subst, arith, eq-eqb, length-append, le_refl}
 use Rattle.std.specs.List.{AllByRecursion}
 use Rattle.std.proofs.lemmas.Bool.{true≢false}
 use Rattle.std.proofs.lemmas.List.Sums.{sum_by-append}

@@ -1,11 +1,9 @@
 -- A form at its seat: what its append and the sync behind it leave of the state, memory and the store.
-use Rattle.std.proofs.Common.{ℕ, ◌+◌, ◌-◌, ◌<◌, ◌≤◌, ◌≡◌, ◌==◌, ◌&&◌, ◌^◌, inl, inr, not, Bool, true, false, cond, List, [], ◌∷◌, ◌++◌, fold, length, find, position, set, slice_get, get_or, Option, Some, None, Result, Ok, Err, refl, ap, sym, ◌∙◌, subst, arith, eq-eqb, le_refl, length-set, if◌then◌else◌}
+use Rattle.std.proofs.Common.{ℕ, ◌+◌, ◌-◌, ◌<◌, ◌≤◌, ◌≡◌, ◌&&◌, inl, inr, not, Bool, true, false, cond, List, [], ◌∷◌, ◌++◌, fold, find, slice_get, Option, Some, None, Result, Ok, Err, refl, ap, sym, ◌∙◌, subst, arith, le_refl, if◌then◌else◌}
 use Rattle.std.specs.Prelude.{nat_lt}
-use Rattle.std.specs.List.{AllByRecursion, position_or_len, list_any}
-use Rattle.std.proofs.lemmas.Bool.{cond_both, true≢false}
+use Rattle.std.specs.List.{AllByRecursion, list_any}
 use Rattle.std.proofs.lemmas.Bool.Decides.{nat_tests}
-use Rattle.std.proofs.lemmas.List.Folds.{position_or_len-set}
-use Rattle.std.proofs.lemmas.Option.{same_Some, get_or_from_slice_get}
+use Rattle.std.proofs.lemmas.Option.{same_Some}
 use Rattle.rep_types.specs.declared.ids.Cluster.{Cluster}
 use Rattle.rep_types.specs.declared.ids.Cluster.TheVariants.{A, B, C}
 use Rattle.rep_types.specs.declared.state.Call.TheVariants as call
@@ -15,29 +13,24 @@ use Rattle.rep_types.specs.declared.entry.Entry.{Entry}
 use Rattle.rep_types.specs.declared.entry.EntryKind.TheVariants as kind
 use Rattle.rep_types.specs.declared.reply.Cause.{Cause}
 use Rattle.rep_types.specs.declared.reply.Cause.TheVariants as cause
-use Rattle.rep_types.specs.declared.reply.Reply.{Reply}
-use Rattle.rep_types.specs.declared.reply.Reply.TheVariants as reply
 use Rattle.rep_vault.specs.Contents.{Contents}
 use Rattle.wal_entry.specs.Length.{frame_length}
 use Rattle.wal_entry.specs.Framed.{HasFrame}
-use Rattle.wal_entry.proofs.Verdicts.{length-spelling}
-use Rattle.wal_roll.specs.Log.{Log, LogValue, wal, log_name, used_of}
-use Rattle.wal_roll.specs.Steps.{OnlyFile}
+use Rattle.wal_roll.specs.Log.{LogValue}
 use Rattle.cluster_core.specs.declared.entering.EntryError.{EntryError}
 use Rattle.cluster_core.specs.declared.entering.EntryError.TheVariants.{Broken, NeedRoll, StoreFault, Memory}
 use Rattle.cluster_core.specs.Entering.{MayEnter, Enters}
-use Rattle.region_server.specs.Host.{HostValue, IsHost, Stands as HostStands}
-use Rattle.rep_model.specs.Keyed.{given, replace}
-use Rattle.rep_model.specs.State.{of, other, is_server, with_server}
+use Rattle.region_server.specs.Host.{Stands as HostStands}
+use Rattle.rep_model.specs.Keyed.{given}
+use Rattle.rep_model.specs.State.{of, other, is_server}
 use Rattle.rep_model.specs.Words.{is_paired}
 use Rattle.rep_model.specs.Changes.{takes_pending}
 use Rattle.rep_model.specs.Commits.{commit_count, pending_count}
 use Rattle.rep_model.specs.Peers.{is_standby}
 use Rattle.rep_model.specs.Places.{Seat, seat, located_number, capped, used, lacks_room}
-use Rattle.rep_model.specs.Row.{fault_among, site, is_site}
+use Rattle.rep_model.specs.Row.{site, is_site}
 use Rattle.rep_model.specs.Tickets.{newly, is_acknowledged}
-use Rattle.rep_model.specs.Delivering.{Takes}
-use Rattle.rep_model.specs.LogEvents.{emptied, broken, broken_by, synced_with}
+use Rattle.rep_model.specs.LogEvents.{emptied, broken_by, synced_with}
 use Rattle.rep_model.specs.QueueEvents.{Delivery, arrival, arrives, fails_at, failing_by, stopped}
 use Rattle.rep_model.specs.declared.faults.Failing.{Failing}
 use Rattle.rep_model.specs.declared.faults.Site.{Site}
@@ -45,46 +38,42 @@ use Rattle.rep_model.specs.declared.machine.Machine.{Machine}
 use Rattle.rep_model.specs.declared.machine.Form.{Form}
 use Rattle.rep_model.specs.declared.machine.Link.{Link}
 use Rattle.rep_model.specs.declared.machine.Pending.{Pending}
-use Rattle.rep_model.specs.declared.machine.Region.{Region}
 use Rattle.rep_model.specs.declared.machine.Server.{Server}
 use Rattle.rep_model.specs.declared.machine.Side.{Side}
 use Rattle.rep_model.specs.declared.machine.Ticket.{Ticket}
 use Rattle.rep_model.specs.declared.machine.Told.TheVariants as told
-use Rattle.rep_laws.proofs.Acts.{Served, OfTable, Acts, act, EntryPends}
+use Rattle.rep_laws.proofs.Acts.{Served, act, EntryPends}
 use Rattle.rep_laws.proofs.ActForms.{seat_served, synced_one}
 use Rattle.rep_laws.proofs.DoesLogs.{seated}
-use Rattle.rep_laws.proofs.Finding.{find_replaced}
 use Rattle.rep_laws.proofs.Lists.{In, in_all, found_in, All_append, All_found}
 use Rattle.rep_laws.proofs.PromisePart.{Promised, AllPromised, Rises, PromiseSide, promises_at}
 use Rattle.rep_laws.proofs.Sides.{of_with, flights_with, tickets_with, told_after}
-use Rattle.rep_laws.proofs.Slots.{ticket_of, slot_bound}
+use Rattle.rep_laws.proofs.Slots.{ticket_of}
 use Rattle.cluster_core.specs.declared.parts.ClusterCore.{ClusterCore}
 use Rattle.cluster_core.specs.declared.parts.CoreError.{CoreError}
-use Rattle.cluster_core.specs.declared.parts.CoreError.TheVariants as failed
 use Rattle.cluster_core.specs.declared.parts.Index.{Index}
 use Rattle.cluster_core.specs.declared.parts.Station.{Station}
 use Rattle.cluster_core.specs.Absorbing.{standing_so, committed_side}
-use Rattle.cluster_core.specs.Accepting.{next_entry, with_pending, TakesIn, IsNextId}
+use Rattle.cluster_core.specs.Accepting.{next_entry, IsNextId}
 use Rattle.cluster_core.specs.Entries.{coming, tickets_of}
 use Rattle.cluster_core.specs.Logs.{log_of}
-use Rattle.cluster_core.specs.Lookups.{HasStation, HasSeat}
-use Rattle.cluster_core.specs.Orderly.{IsPlaced, ArePlaced, FitsLog, IsOrderly}
-use Rattle.cluster_core.specs.Stands.{Stands, waiting, is_station}
-use Rattle.cluster_core.proofs.Accepted.{accepted, log_pushed, log_torn, tickets_pushed}
+use Rattle.cluster_core.specs.Lookups.{HasSeat}
+use Rattle.cluster_core.specs.Orderly.{IsPlaced, ArePlaced, FitsLog}
+use Rattle.cluster_core.specs.Stands.{Stands, waiting}
+use Rattle.cluster_core.proofs.Accepted.{tickets_pushed}
 use Rattle.cluster_core.proofs.Answering.{faulted}
-use Rattle.cluster_core.proofs.Lookups.{seat_is, used_is, station_found}
+use Rattle.cluster_core.proofs.Lookups.{seat_is}
 use Rattle.cluster_core.proofs.Seats.{hosts}
 use Rattle.cluster_core.proofs.Settling.{left_with, of_left, beside_left, flights_left, settled_left}
 use Rattle.cluster_core.proofs.Simple.{beside_with}
-use Rattle.cluster_core.proofs.Synced.{host_stands}
 use Rattle.cluster_core.proofs.Acknowledged.{plain_from, all_plain}
 use Rattle.arrival_events.specs.Acks.{put_in}
 use Rattle.arrival_events.specs.Arriving.{arriving_entry, MayArrive, IsMidway, Waited, Leaves, fault_of, fault_at, Arrives}
 use Rattle.arrival_events.specs.Entered.{arrived_by}
 use Rattle.arrival_events.specs.declared.arriving.Arrived.{Arrived}
-use Rattle.arrival_events.specs.declared.arriving.Arrived.TheVariants.{Taken, Stopped}
+use Rattle.arrival_events.specs.declared.arriving.Arrived.TheVariants.{Stopped}
 use Rattle.arrival_events.proofs.Merging.{told_all, ascending, all_wait}
-use Rattle.arrival_events.proofs.Midway.{Grown, grown_same, grown_more, midway_next, seat_lives, seat_is_open, seat_dead, seat_place, seat_pending, seat_next}
+use Rattle.arrival_events.proofs.Midway.{grown_same, grown_more, midway_next, seat_lives, seat_is_open, seat_dead, seat_place, seat_pending, seat_next}
 
 -- ---- numbers
 
@@ -178,20 +167,11 @@ acknowledged own pair m v way i lives before w =
 module _ (own : Cluster) (old : Contents) (core : ClusterCore) (m : Machine) (form : Form) (peer region at seq : ℕ)
     (way : IsMidway own m) (stands : Stands own old core (of own m)) (k : HasSeat old (of own m) core.stations form.edit.table form.edit.row region at)
     (id : IsNextId core.index region seq) (framed : HasFrame (arriving_entry region seq peer form)) where
-  abbrev srv : Server
-  srv = k.station.server
-
   abbrev there : Seat
   there = record { server = k.station.server; region = k.hosted.region }
 
   abbrev waits : Pending
   waits = arrival peer (record { server = k.station.server; region = k.hosted.region }) form
-
-  abbrev need : ℕ
-  need = frame_length (kind.Write form.edit)
-
-  abbrev side : Side
-  side = of own m
 
   pair : is_paired own ≡ true
   pair = stands.paired
@@ -248,9 +228,6 @@ module _ (own : Cluster) (old : Contents) (core : ClusterCore) (m : Machine) (fo
   room_is_there : not k.station.server.whole ≡ false → lacks_room own k.station.server (frame_length (kind.Write form.edit)) m ≡ false → (i : ℕ) (failed : Option Failing) (rest : Machine → Delivery)
       → arrives peer false form own i failed m rest ≡ comes peer form own i (fails_at failed i) there m rest
   room_is_there whole room i failed rest = open_is whole i failed rest ∙ ap (behind i failed rest) room
-
-  host_is : IsHost old k.station.station.host (log_of (of own m).commits k.station.server)
-  host_is = hosts old (of own m) core.stations k.on at k.station sealed
 
   fits : used own k.station.server m ≤ 65536
   fits = All_found (FitsLog (of own m).commits) (is_server k.station.server.number) (of own m).servers k.station.server known way.orderly.fits
@@ -357,9 +334,9 @@ module _ (own : Cluster) (old : Contents) (core : ClusterCore) (m : Machine) (fo
   by_entry new core' (Err (StoreFault call count)) t =
       fails new core' (cause.StoreFault own call count) refl
       (λ i. elim t.2 [
-          | inl e ↦ subst (λ c. failing_by own i (cause.StoreFault own c count) ≡ fault_at i (Some (cause.StoreFault own c count))) (sym e) (append_fails own count i)
-          | inr e ↦ subst (λ c. failing_by own i (cause.StoreFault own c count) ≡ fault_at i (Some (cause.StoreFault own c count))) (sym e) (sync_fails own count i)
-        ])
+        | inl e ↦ subst (λ c. failing_by own i (cause.StoreFault own c count) ≡ fault_at i (Some (cause.StoreFault own c count))) (sym e) (append_fails own count i)
+        | inr e ↦ subst (λ c. failing_by own i (cause.StoreFault own c count) ≡ fault_at i (Some (cause.StoreFault own c count))) (sym e) (sync_fails own count i)
+      ])
       (ap not t.0) t.1 t.3
   by_entry new core' (Err (Memory changed)) t = t
 

@@ -1,21 +1,19 @@
 -- A delivery goes on by one form, stops at one, or ends.
-use Rattle.std.proofs.Common.{ℕ, zero, suc, ◌+◌, ◌<◌, ◌≤◌, ◌≡◌, ◌==◌, Bool, true, false, cond, List, [], ◌∷◌, fold, length, drop, get_or, Option, Some, None, Result, Ok, refl, ap, sym, ◌∙◌, subst, arith, eq-eqb, ne_eqb}
+use Rattle.std.proofs.Common.{ℕ, zero, suc, ◌+◌, ◌<◌, ◌≤◌, ◌≡◌, Bool, cond, List, [], ◌∷◌, fold, length, drop, get_or, Option, Some, None, Result, Ok, refl, ap, sym, ◌∙◌, subst, arith, eq-eqb, ne_eqb}
 use Rattle.std.specs.List.{AllByRecursion}
 use Rattle.rep_types.specs.declared.ids.Cluster.{Cluster}
-use Rattle.rep_types.specs.declared.state.Call.{Call}
 use Rattle.rep_types.specs.declared.reply.Cause.{Cause}
 use Rattle.rep_vault.specs.Contents.{Contents}
 use Rattle.rep_vault.specs.Tallies.{Tally}
-use Rattle.rep_model.specs.State.{of, other}
-use Rattle.rep_model.specs.Tickets.{newly, is_acknowledged}
-use Rattle.rep_model.specs.QueueEvents.{Delivery, delivered, failing_by, fails_at}
+use Rattle.rep_model.specs.State.{of}
+use Rattle.rep_model.specs.QueueEvents.{delivered, fails_at}
 use Rattle.rep_model.specs.declared.faults.Failing.{Failing}
 use Rattle.rep_model.specs.declared.machine.Form.{Form}
 use Rattle.rep_model.specs.declared.machine.Machine.{Machine}
 use Rattle.rep_model.proofs.Arriving.{delivered-goes, delivered-stops}
 use Rattle.cluster_core.specs.declared.parts.ClusterCore.{ClusterCore}
 use Rattle.cluster_core.specs.declared.parts.CoreError.{CoreError}
-use Rattle.cluster_core.specs.Does.{Counts, CauseTold}
+use Rattle.cluster_core.specs.Does.{Counts}
 use Rattle.cluster_core.specs.Stands.{Stands}
 use Rattle.arrival_events.specs.Acks.{put_in}
 use Rattle.arrival_events.specs.Arriving.{IsMidway, fault_of, fault_at, Arrives}
@@ -23,9 +21,7 @@ use Rattle.arrival_events.specs.Delivering.{Delivers}
 use Rattle.arrival_events.specs.Underway.{IsUnderway}
 use Rattle.arrival_events.specs.declared.arriving.Arrived.{Arrived}
 use Rattle.arrival_events.specs.declared.arriving.Arrived.TheVariants.{Taken, Stopped}
-use Rattle.arrival_events.specs.declared.delivering.Delivered.{Delivered}
 use Rattle.arrival_events.proofs.Merging.{waited_self, nothing_new}
-use Rattle.arrival_events.proofs.Telling.{cause_later}
 
 pub all_at : {X : Type 0} (P : X → Type 0) (xs : List X) (at : ℕ) (d : X) → at < length xs → AllByRecursion P xs → P (get_or xs at d)
 all_at P [] at d h a = absurd (omega arith)
@@ -117,6 +113,3 @@ upto a b c h g = omega arith
 
 pub counts_then : (old mid new : Tally) → Counts old mid → Counts mid new → Counts old new
 counts_then old mid new a b = record { kept = λ k. upto (old.faults k) (mid.faults k) (new.faults k) (a.kept k) (b.kept k); planned = b.planned ∙ a.planned }
-
-pub stop_later : (own c : Cluster) → c ≡ own → (why : Cause) (old mid new : Tally) → Counts old mid → CauseTold c why mid new → CauseTold own why old new
-stop_later own c is why old mid new a t = cause_later own why old mid new a.kept (subst (λ (x : Cluster). CauseTold x why mid new) is t)

@@ -8,7 +8,7 @@ use Rattle.rep_vault.specs.Tallies.{Tally}
 use Rattle.wal_entry.specs.Framed.{HasFrame}
 use Rattle.rep_model.specs.State.{of, other, flight_of}
 use Rattle.rep_model.specs.Tickets.{acks}
-use Rattle.rep_model.specs.QueueEvents.{Delivery, delivered, failing_by}
+use Rattle.rep_model.specs.QueueEvents.{delivered, failing_by}
 use Rattle.rep_model.specs.declared.faults.Failing.{Failing}
 use Rattle.rep_model.specs.declared.machine.Commit.{Commit}
 use Rattle.rep_model.specs.declared.machine.Form.{Form}

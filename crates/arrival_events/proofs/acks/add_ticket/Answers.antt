@@ -1,4 +1,4 @@
-use Rattle.std.proofs.Common.{◌≡◌, ap, ◌∙◌, List, ℕ, subst, ◌≤◌, length}
+use Rattle.std.proofs.Common.{◌≡◌, ap, ◌∙◌, List, ℕ}
 use Rattle.std.specs.Prelude.{insert}
 use Rattle.std.specs.List.{position_or_len}
 use Rattle.arrival_events.specs.Acks.{is_above}

@@ -1,4 +1,4 @@
-use Rattle.std.proofs.Common.{sym, ap, ◌∙◌, subst, ◌≤◌, length, arith}
+use Rattle.std.proofs.Common.{sym, length, arith}
 use Rattle.std.specs.List.{position_or_len}
 use Rattle.rep_model.proofs.Replacing.{at_place, no_place}
 use Rattle.arrival_events.specs.Acks.{is_above}

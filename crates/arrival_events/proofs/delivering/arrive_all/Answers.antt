@@ -1,5 +1,5 @@
 -- A delivery, form by form.
-use Rattle.std.proofs.Common.{◌≡◌, ℕ, ◌+◌, ◌<◌, ◌≤◌, List, fold, rules, Ok, Some, None, length, refl, ap, sym, ◌∙◌, subst, le_refl, arith}
+use Rattle.std.proofs.Common.{◌≡◌, ℕ, ◌+◌, ◌<◌, ◌≤◌, List, fold, rules, Ok, Some, None, length, refl, ap, sym, subst, le_refl, arith}
 use Rattle.rep_types.specs.declared.ids.Cluster.{Cluster}
 use Rattle.rep_vault.specs.Contents.{Contents}
 use Rattle.rep_model.specs.declared.machine.Form.{Form}
@@ -8,7 +8,6 @@ use Rattle.arrival_events.specs.Acks.{put_in}
 use Rattle.arrival_events.specs.Arriving.{MayArrive}
 use Rattle.arrival_events.specs.Delivering.{Delivers}
 use Rattle.arrival_events.specs.Underway.{IsUnderway}
-use Rattle.arrival_events.specs.declared.arriving.Arrived.TheVariants.{Taken, Stopped}
 use Rattle.arrival_events.proofs.Underway.{all_at, drop_end, begun, went, stopped_at, ended, by_own, counts_then}
 use Rattle.arrival_events.proofs.delivering.arrive_all.Goals as goal
 

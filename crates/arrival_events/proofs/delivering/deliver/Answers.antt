@@ -4,14 +4,11 @@ use Rattle.std.specs.List.{AllByRecursion}
 use Rattle.rep_types.specs.declared.ids.Cluster.{Cluster}
 use Rattle.rep_vault.specs.Contents.{Contents}
 use Rattle.rep_model.specs.QueueEvents.{flight_forms}
-use Rattle.rep_model.specs.declared.machine.Flight.{Flight}
-use Rattle.rep_model.specs.declared.machine.Form.{Form}
 use Rattle.cluster_core.specs.declared.parts.ClusterCore.{ClusterCore}
 use Rattle.cluster_core.specs.declared.parts.Sent.{Sent}
 use Rattle.cluster_core.specs.Does.{sent_of}
 use Rattle.cluster_core.proofs.Places.{taken_place}
 use Rattle.arrival_events.specs.Arriving.{MayArrive}
-use Rattle.arrival_events.specs.Delivering.{Delivers}
 use Rattle.arrival_events.proofs.Flown.{no_flight, flight_at, may_arrive, stopped_flies, all_fly, unfinished}
 use Rattle.arrival_events.proofs.Midway.{midway_first}
 use Rattle.arrival_events.proofs.delivering.deliver.Goals as goal
