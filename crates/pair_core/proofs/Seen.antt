@@ -1,11 +1,12 @@
 -- One cluster's event, seen from both.
 use Rattle.std.proofs.Common.{ℕ, ◌+◌, ◌-◌, ◌^◌, ◌<◌, ◌≤◌, ◌≡◌, Result, Err, min, arith, false, true, Option, Some, None, List, map, length, refl, sym, ap, ◌∙◌, subst}
-use Rattle.std.proofs.lemmas.Bool.{false≢true}
+use Rattle.std.proofs.lemmas.Bool.{false≢true, and_parts, leb-true}
 use Rattle.std.specs.Prelude.{IfSome}
 use Rattle.std.specs.Option.{option_map}
 use Rattle.rep_types.specs.declared.ids.Cluster.{Cluster}
 use Rattle.rep_types.specs.declared.ids.Cluster.TheVariants.{A, B, C}
 use Rattle.rep_types.specs.declared.event.Event.{Event}
+use Rattle.rep_types.specs.declared.event.Event.TheVariants as event
 use Rattle.rep_types.specs.declared.state.Call.{Call}
 use Rattle.rep_types.specs.declared.reply.Cause.{Cause}
 use Rattle.rep_types.specs.declared.reply.Cause.TheVariants as cause
@@ -16,12 +17,15 @@ use Rattle.rep_vault.specs.Tallies.{Tally}
 use Rattle.rep_model.specs.Row.{Row}
 use Rattle.rep_model.specs.Calm.{is_calm}
 use Rattle.rep_model.specs.Keyed.{given}
-use Rattle.rep_model.specs.State.{flight_of}
+use Rattle.rep_model.specs.State.{other, flight_of, is_flight}
+use Rattle.rep_model.specs.Words.{is_paired, is_worded}
 use Rattle.rep_model.specs.Rows.{row}
 use Rattle.rep_model.specs.declared.machine.Machine.{Machine}
 use Rattle.rep_model.specs.declared.machine.Side.{Side}
 use Rattle.rep_model.specs.declared.machine.Flight.{Flight}
 use Rattle.rep_laws.specs.Growing.{accepted, Grows}
+use Rattle.rep_laws.proofs.Cited.{flights_are_paired}
+use Rattle.rep_laws.proofs.Lists.{In, found_in}
 use Rattle.rep_laws.proofs.RowLengths.{row_grows}
 use Rattle.cluster_core.specs.declared.parts.Sent.{Sent}
 use Rattle.cluster_core.specs.declared.parts.ClusterCore.{ClusterCore}
@@ -29,10 +33,11 @@ use Rattle.cluster_core.specs.declared.parts.CoreError.{CoreError}
 use Rattle.cluster_core.specs.declared.parts.CoreError.TheVariants as failed
 use Rattle.cluster_core.specs.Stands.{Stands}
 use Rattle.cluster_core.specs.Does.{Reached, Flies, FliesOr, Does, IsTold, CauseTold, FaultTold, sent_of}
+use Rattle.arrival_events.specs.Delivering.{IsFor}
 use Rattle.queue_events.specs.Flights.{IsFrom}
 use Rattle.queue_events.proofs.Confirmed.{sent_is}
 use Rattle.pair_core.specs.declared.sides.Sides.{Sides}
-use Rattle.pair_core.specs.Served.{source_of}
+use Rattle.pair_core.specs.Served.{source_of, cluster_of}
 use Rattle.pair_core.specs.Sides.{Both, of, AllStand, Standing, IsHere}
 use Rattle.pair_core.specs.Performs.{Done, Performs, Rose, FaultRose}
 
@@ -104,6 +109,60 @@ from_here (Some f) own e = e
 -- a flight whose event is performed here was sent from here
 pub source_here : (m : Machine) → Reached m → (flights : List Sent) → flights ≡ map sent_of m.flights → (k : ℕ) (own : Cluster) → source_of k flights ≡ own → IsFrom own k m
 source_here m reached flights are k own e = from_here (flight_of k m) own (ap (λ (o : Option Sent). given o A (λ (f : Sent). f.cluster)) (sym (sent_is m reached k)) ∙ (ap (λ (fs : List Sent). source_of k fs) (sym are) ∙ e))
+
+paired_now : (m : Machine) → Reached m → (k : ℕ) (o : Option Flight) → flight_of k m ≡ o → is_paired (given (option_map sent_of o) A (λ (f : Sent). f.cluster)) ≡ true
+unfolding given
+paired_now m reached k None e = refl
+paired_now m reached k (Some f) e = subst (λ (w : Machine). In f w.flights → is_paired f.cluster ≡ true) reached.2 (flights_are_paired reached.0 reached.1 f) (found_in (is_flight k) m.flights f e)
+
+-- flights are between the two clusters
+source_is_paired : (m : Machine) → Reached m → (flights : List Sent) → flights ≡ map sent_of m.flights → (k : ℕ) → is_paired (source_of k flights) ≡ true
+source_is_paired m reached flights are k =
+    ap (λ (fs : List Sent). is_paired (source_of k fs)) are ∙ (ap (λ (o : Option Sent). is_paired (given o A (λ (f : Sent). f.cluster))) (sent_is m reached k) ∙ paired_now m reached k (flight_of k m) refl)
+
+other_is_paired : (c : Cluster) → is_paired c ≡ true → is_paired (other c) ≡ true
+other_is_paired A e = refl
+other_is_paired B e = refl
+other_is_paired C e = absurd (false≢true e)
+
+other_twice : (c : Cluster) → is_paired c ≡ true → c ≡ other (other c)
+other_twice A e = refl
+other_twice B e = refl
+other_twice C e = absurd (false≢true e)
+
+for_here : (o : Option Flight) (own : Cluster) → is_paired (given (option_map sent_of o) A (λ (f : Sent). f.cluster)) ≡ true → other (given (option_map sent_of o) A (λ (f : Sent). f.cluster)) ≡ own → IfSome o (λ (f : Flight). f.cluster ≡ other own)
+unfolding given
+for_here None own pair e = tt
+for_here (Some f) own pair e = other_twice f.cluster pair ∙ ap other e
+
+-- a flight whose event is performed here was sent to here
+pub sink_here : (m : Machine) → Reached m → (flights : List Sent) → flights ≡ map sent_of m.flights → (k : ℕ) (own : Cluster) → other (source_of k flights) ≡ own → IsFor own k m
+sink_here m reached flights are k own e = for_here (flight_of k m) own (paired_now m reached k (flight_of k m) refl)
+    (ap (λ (o : Option Sent). other (given o A (λ (f : Sent). f.cluster))) (sym (sent_is m reached k)) ∙ (ap (λ (fs : List Sent). other (source_of k fs)) (sym are) ∙ e))
+
+-- a served event is one of cluster A or B
+served_is_paired : (e : Event) (flights : List Sent) → is_worded e ≡ true → ((k : ℕ) → is_paired (source_of k flights) ≡ true) → is_paired (cluster_of flights e) ≡ true
+served_is_paired (event.Server c s) flights w fs = w
+served_is_paired (event.Table c t ts) flights w fs = (and_parts _ _ w).0
+served_is_paired (event.OpenBegin c r s) flights w fs = w
+served_is_paired (event.OpenEnd c r) flights w fs = w
+served_is_paired (event.Put c t k cells) flights w fs = (and_parts _ _ w).0
+served_is_paired (event.Get c t k) flights w fs = w
+served_is_paired (event.Show c t) flights w fs = w
+served_is_paired (event.Sync c s) flights w fs = w
+served_is_paired (event.Roll c s) flights w fs = w
+served_is_paired (event.Peer c p k ts) flights w fs = (and_parts _ _ w).0
+served_is_paired (event.Send c p s n) flights w fs = (and_parts _ _ w).0
+served_is_paired (event.Deliver f) flights w fs = other_is_paired (source_of f flights) (fs f)
+served_is_paired (event.Confirm f) flights w fs = fs f
+served_is_paired _ flights w fs = refl
+
+pub never_c : (e : Event) (stores : Both Contents) (sides : Sides) → is_worded e ≡ true → Standing stores sides → C ≡ cluster_of sides.flights e → ⊥
+never_c e stores sides worded s is = false≢true (ap is_paired is ∙ served_is_paired e sides.flights worded (source_is_paired s.0 s.1 sides.flights s.2.flights))
+
+-- a batch has at least one entry
+pub some_sent : (c : Cluster) (p s n : ℕ) → is_worded (event.Send c p s n) ≡ true → 1 ≤ n
+some_sent c p s n w = leb-true 1 n (and_parts _ _ (and_parts (is_paired c) _ w).1).0
 
 -- ---- what a cluster knows
 

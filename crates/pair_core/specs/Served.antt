@@ -7,6 +7,7 @@ use Rattle.rep_types.specs.declared.event.Event.TheVariants as event
 use Rattle.rep_types.specs.declared.state.Kind.{Kind}
 use Rattle.rep_types.specs.declared.state.Kind.TheVariants.{Plain, Serial, Synchronous}
 use Rattle.rep_model.specs.Keyed.{given}
+use Rattle.rep_model.specs.State.{other}
 use Rattle.cluster_core.specs.declared.parts.Sent.{Sent}
 use Rattle.queue_events.specs.Flights.{sent_at}
 
@@ -27,6 +28,8 @@ is_served (event.Show c t) = true
 is_served (event.Sync c s) = true
 is_served (event.Roll c s) = true
 is_served (event.Peer c p k ts) = is_plain k
+is_served (event.Send c p s n) = true
+is_served (event.Deliver f) = true
 is_served (event.Confirm f) = true
 is_served _ = false
 
@@ -34,7 +37,7 @@ is_served _ = false
 abbrev pub source_of : ℕ → List Sent → Cluster
 source_of k flights = given (sent_at k flights) A (λ f. f.cluster)
 
--- where a served event is performed
+-- where a served event is performed: a flight arrives at the other cluster
 abbrev pub cluster_of : List Sent → Event → Cluster
 cluster_of flights (event.Server c s) = c
 cluster_of flights (event.Table c t fs) = c
@@ -46,5 +49,7 @@ cluster_of flights (event.Show c t) = c
 cluster_of flights (event.Sync c s) = c
 cluster_of flights (event.Roll c s) = c
 cluster_of flights (event.Peer c p k ts) = c
+cluster_of flights (event.Send c p s n) = c
+cluster_of flights (event.Deliver f) = other (source_of f flights)
 cluster_of flights (event.Confirm f) = source_of f flights
 cluster_of flights _ = A

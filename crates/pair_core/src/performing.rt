@@ -16,10 +16,11 @@ ghost use Rattle.pair_core.specs.Pair.{both};
 ghost use Rattle.pair_core.specs.Performs.{Performs, FaultRose};
 
 use crate::sides::{Sides, accepted, cluster_of};
+use arrival_events::deliver;
 use cluster_core::{ClusterCore, CoreError, Sent};
 use log_events::{roll, sync};
 use peer_events::peer;
-use queue_events::confirm;
+use queue_events::{confirm, send};
 use read_events::{get, show};
 use region_events::{open_begin, open_end, table};
 use region_meta::RegionMap;
@@ -138,6 +139,10 @@ fn on_side<V: Vault>(
             tables,
             ..
         } => add_peer(core, alloc, own, beside, *peer, tables),
+        Event::Send {
+            peer, server, most, ..
+        } => send(core, alloc, own, flights, *peer, *server, *most),
+        Event::Deliver { flight } => deliver(core, alloc, own, flights, *flight),
         Event::Confirm { flight } => confirm(core, flights, *flight),
         _ => unreachable!(),
     }

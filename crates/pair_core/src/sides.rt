@@ -1,6 +1,7 @@
 // Both clusters in memory.
 ghost use Rattle.std.specs.Prelude.{◌≡◌, IfOk};
 ghost use Rattle.rep_laws.specs.Growing.{accepted};
+ghost use Rattle.rep_model.specs.State.{other};
 ghost use Rattle.pair_core.specs.Sides.{empty_sides};
 ghost use Rattle.pair_core.specs.Served.{source_of, cluster_of};
 
@@ -53,6 +54,17 @@ fn source_of(flights: &Items<Sent>, flight: u32) -> Cluster
     }
 }
 
+// Where the flights of a cluster arrive.
+fn destination(source: Cluster) -> Cluster
+    ensures { result ≡ other source }
+{
+    match source {
+        Cluster::A => Cluster::B,
+        Cluster::B => Cluster::A,
+        Cluster::C => Cluster::A,
+    }
+}
+
 /// Where an event is performed.
 pub fn cluster_of(flights: &Items<Sent>, event: &Event) -> Cluster
     ensures { result ≡ cluster_of flights.now event.now }
@@ -68,6 +80,8 @@ pub fn cluster_of(flights: &Items<Sent>, event: &Event) -> Cluster
         Event::Sync { cluster, .. } => *cluster,
         Event::Roll { cluster, .. } => *cluster,
         Event::Peer { cluster, .. } => *cluster,
+        Event::Send { cluster, .. } => *cluster,
+        Event::Deliver { flight } => destination(source_of(flights, *flight)),
         Event::Confirm { flight } => source_of(flights, *flight),
         _ => Cluster::A,
     }

@@ -1,21 +1,8 @@
-use Rattle.std.proofs.Common.{rules, ◌≡◌, ◌+◌, ◌-◌, ◌^◌, ◌<◌, IfOk, length, true, ℕ, ◌*◌, ◌≤◌, ◌/◌, ◌%◌, Bool, false, nat_eq, nat_lt, List, [], ◌∷◌, ◌++◌, slice_index_or, slice_set, bit_and, bit_or, Fits, w8, w32, w64, Bor, MutBor}
-use Rattle.rep_types.specs.declared.ids.Cluster.TheVariants as cluster
-use Rattle.rep_types.specs.declared.event.Event.TheVariants as event
-use Rattle.rep_types.specs.declared.state.Kind.TheVariants as kind
-use Rattle.rep_model.specs.State.{of, other}
-use Rattle.rep_vault.specs.Contents.{Contents}
-use Rattle.rep_model.specs.Words.{is_worded}
-use Rattle.rep_model.specs.declared.machine.Machine.{Machine}
-use Rattle.cluster_core.specs.Memory.{map_of}
-use Rattle.cluster_core.specs.Stands.{Stands}
-use Rattle.cluster_core.specs.Does.{Reached, Standing, Counts, FaultTold, Answers, FliesOr}
-use Rattle.pair_core.specs.Served.{is_served, cluster_of}
-use Rattle.pair_core.specs.Sides.{Standing as AllStanding}
-use Rattle.pair_core.specs.Sides.{AllStand, IsHere}
-use Rattle.pair_core.specs.Pair.{both}
-use Rattle.pair_core.specs.Performs.{Performs, FaultRose}
+use Rattle.std.proofs.Common.{◌+◌, ap, min, ◌∙◌}
+use Rattle.pair_core.proofs.Seen.{performed_a}
 use Rattle.pair_core.proofs.performing.in_a.Goals as goal
 
--- src/performing.rt:147:1
 pub returns-clause-does : goal.returns-clause-does
-returns-clause-does g c = ?
+returns-clause-does g c = λ d m reached all.
+    performed_a c.args.event.now c.in_ok-reply.reply (g.V.Vault.contents c.args.own.now) (g.V.Vault.contents c.on_side.new.own) d c.args.sides.now c.on_side.new.core c.on_side.new.flights c.saturating_add-sides.result m reached all
+    c.in_ok-reply.ensures.does c.requires.room (c.saturating_add-sides.ensures ∙ ap (λ n. min (c.args.sides.now.tickets + n) 4294967295) c.accepted.ensures)
