@@ -12,6 +12,7 @@ use Rattle.rep_types.specs.declared.reply.Cause.{Cause}
 use Rattle.rep_types.specs.declared.reply.Cause.TheVariants as cause
 use Rattle.rep_types.specs.declared.reply.Reply.{Reply}
 use Rattle.rep_types.specs.declared.reply.Reply.TheVariants as reply
+use Rattle.region_meta.specs.Regions.{Map}
 use Rattle.rep_vault.specs.Contents.{Contents}
 use Rattle.rep_vault.specs.Tallies.{Tally}
 use Rattle.rep_model.specs.Row.{Row}
@@ -33,7 +34,7 @@ use Rattle.cluster_core.specs.declared.parts.CoreError.{CoreError}
 use Rattle.cluster_core.specs.declared.parts.CoreError.TheVariants as failed
 use Rattle.cluster_core.specs.Stands.{Stands}
 use Rattle.cluster_core.specs.Does.{Reached, Flies, FliesOr, Does, IsTold, CauseTold, FaultTold, sent_of}
-use Rattle.arrival_events.specs.Delivering.{IsFor}
+use Rattle.arrival_events.specs.Delivering.{IsFor, IsSink}
 use Rattle.queue_events.specs.Flights.{IsFrom}
 use Rattle.queue_events.proofs.Confirmed.{sent_is}
 use Rattle.pair_core.specs.declared.sides.Sides.{Sides}
@@ -231,3 +232,13 @@ at_a at c sides e s = e ∙ sym s.1.2.a.own_is
 
 pub at_b : (at : Cluster) (c : Contents) (sides : Sides) → at ≡ B → (d : Contents) × Standing (record { a = d; b = c }) sides → at ≡ sides.b.own
 at_b at c sides e s = e ∙ sym s.1.2.b.own_is
+
+-- what a cluster knows of a flight that arrives
+pub to_sink : (own : Cluster) (c : Contents) (core : ClusterCore) (beside : Map) (flights : List Sent) (tickets k : ℕ) (m : Machine) → IsHere own c core beside flights tickets m → other (source_of k flights) ≡ own → IsSink own c core flights k m
+to_sink own c core beside flights tickets k m h e = record {
+  reached = h.reached;
+  stands = h.stands;
+  flights_are = h.flights_are;
+  sent_here = sink_here m h.reached flights h.flights_are k own e;
+  framed = h.framed;
+}
