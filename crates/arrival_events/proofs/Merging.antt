@@ -13,9 +13,19 @@ use Rattle.rep_model.specs.declared.machine.Told.TheVariants as told
 use Rattle.rep_laws.proofs.Lists.{In, in_all}
 use Rattle.rep_laws.proofs.PromisePart.{Precedes, Rises}
 use Rattle.cluster_core.specs.Entries.{tickets_of}
-use Rattle.cluster_core.proofs.Acknowledged.{Ascends, tell_from, plain_from}
+use Rattle.cluster_core.proofs.Acknowledged.{plain_from}
+use Rattle.cluster_core.proofs.Telling as telling
 use Rattle.arrival_events.specs.Acks.{is_above, put_in}
 use Rattle.arrival_events.specs.Arriving.{Waited}
+
+-- ascending, from b on
+abbrev pub Ascends : ℕ → List ℕ → Type 0
+Ascends b [] = Unit {0}
+Ascends b (k ∷ ks) = (b ≤ k) × Ascends (suc k) ks
+
+-- the ticket of this number is plain
+abbrev pub tell_from : ℕ → ℕ → List Ticket → List Ticket
+tell_from b k ts = telling.tell_from told.Plain b k ts
 
 -- ---- a number among others
 
