@@ -1,3 +1,4 @@
+pub mod ClosingBegun
 pub mod Marked
 pub mod Marking
 pub mod Moving

@@ -5,9 +5,9 @@ use Rattle.rep_types.specs.declared.refusal.Refusal.{Refusal}
 use Rattle.rep_types.specs.declared.refusal.Refusal.TheVariants as refusal
 use Rattle.rep_model.specs.Keyed.{if_some}
 use Rattle.rep_model.specs.State.{region_of, server_of}
-use Rattle.rep_model.specs.Places.{table_of, is_off}
+use Rattle.rep_model.specs.Places.{table_of, is_off, on_at}
 use Rattle.rep_model.specs.Row.{first}
-use Rattle.rep_model.specs.RegionEvents.{too_many, place_of}
+use Rattle.rep_model.specs.RegionEvents.{too_many, place_of, placed_refusals}
 use Rattle.rep_model.specs.declared.machine.Machine.{Machine}
 
 abbrev pub table_refusal : Cluster → List ℕ → Machine → Option Refusal
@@ -20,3 +20,6 @@ open_refusal c r s m = first (
     ∷ (not (if_some (server_of c s m) (λ srv. srv.live)), refusal.Dead s)
     ∷ (not (is_off (place_of c r m)), refusal.WrongPlace (place_of c r m))
     ∷ [])
+
+abbrev pub close_refusal : Cluster → ℕ → Machine → Option Refusal
+close_refusal c r m = first (placed_refusals c r (is_some (on_at (place_of c r m))) m [])
