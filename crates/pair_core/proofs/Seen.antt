@@ -42,15 +42,6 @@ use Rattle.pair_core.specs.Served.{source_of, cluster_of}
 use Rattle.pair_core.specs.Sides.{Both, of, AllStand, Standing, IsHere}
 use Rattle.pair_core.specs.Performs.{Done, Performs, Rose, FaultRose}
 
--- an event that isn't of flights leaves them
-pub flies_none : (own : Cluster) (r : Row) (m : Machine) (c : Contents) (core : ClusterCore) (flights : List Sent) (said : Reply) → flights ≡ map sent_of m.flights → Does own r m c core said → Flies own r m c core flights said
-flies_none own r m c core flights said e does = record {
-  reply_is = does.reply_is;
-  stands = does.stands;
-  beside = does.beside;
-  flights_are = e ∙ ap (map sent_of) (sym does.flights);
-}
-
 more_tickets : (e : Event) (said : Reply) (m : Machine) (tickets now : ℕ) → tickets ≡ length m.tickets → now ≡ tickets + accepted said → said ≡ (row e said m).reply → now ≡ length (row e said m).state.tickets
 more_tickets e said m tickets now t n is =
     let grows : Grows m (row e said m) = row_grows e said m in
@@ -79,26 +70,6 @@ done_in_b e said m stores sides c core flights tickets stand flies more = record
     tickets = more_tickets e said m sides.tickets tickets stand.tickets more flies.reply_is;
   };
 }
-
--- ---- faults
-
-told_rose : (own store : Cluster) (call : Call) (n : ℕ) (old new : Both Tally) → IsTold own store call n (of own old) (of own new) → Rose (of store old) (of store new) call n
-told_rose own store call n old new told = subst (λ (s : Cluster). Rose (of s old) (of s new) call n) (sym told.store_is) (record { kind = told.kind; count = told.count; sum = told.rose })
-
-pub fault_rose : (own : Cluster) (said : Reply) (old new : Both Tally) → FaultTold own said (of own old) (of own new) → FaultRose said old new
-fault_rose own (reply.StoreFault store call n) old new told = told_rose own store call n old new told
-fault_rose own (reply.Stopped index acks why) old new told = by_cause why told
-  where
-    by_cause : (w : Cause) → CauseTold own w (of own old) (of own new) → FaultRose (reply.Stopped index acks w) old new
-    by_cause (cause.StoreFault store call n) t = told_rose own store call n old new t
-    by_cause _ t = tt
-fault_rose own _ old new told = tt
-
-calm_told : (own : Cluster) (said : Reply) (old new : Tally) → is_calm said ≡ true → FaultTold own said old new
-calm_told own (reply.StoreFault store call n) old new e = absurd (false≢true e)
-calm_told own (reply.Stopped index acks (cause.StoreFault store call n)) old new e = absurd (false≢true e)
-calm_told own (reply.Stopped index acks _) old new e = tt
-calm_told own _ old new e = tt
 
 -- ---- flights
 
@@ -147,6 +118,7 @@ served_is_paired (event.Server c s) flights w fs = w
 served_is_paired (event.Table c t ts) flights w fs = (and_parts _ _ w).0
 served_is_paired (event.OpenBegin c r s) flights w fs = w
 served_is_paired (event.OpenEnd c r) flights w fs = w
+served_is_paired (event.CloseBegin c r) flights w fs = w
 served_is_paired (event.Put c t k cells) flights w fs = (and_parts _ _ w).0
 served_is_paired (event.Get c t k) flights w fs = w
 served_is_paired (event.Show c t) flights w fs = w
@@ -174,12 +146,6 @@ here_a c d sides m reached all = subst (λ (own : Cluster). IsHere own c sides.a
 here_b : (c d : Contents) (sides : Sides) (m : Machine) → Reached m → AllStand (record { a = d; b = c }) sides m → IsHere sides.b.own c sides.b sides.a.map sides.flights sides.tickets m
 here_b c d sides m reached all = subst (λ (own : Cluster). IsHere own c sides.b sides.a.map sides.flights sides.tickets m) (sym all.b.own_is)
     (record { reached = reached; stands = all.b; beside_is = all.a.regions; framed = all.a.framed; flights_are = all.flights; tickets_are = all.tickets })
-
-pub knows_a : (c : Contents) (sides : Sides) → (d : Contents) × Standing (record { a = c; b = d }) sides → (m : Machine) × IsHere sides.a.own c sides.a sides.b.map sides.flights sides.tickets m
-knows_a c sides s = (s.1.0, here_a c s.0 sides s.1.0 s.1.1 s.1.2)
-
-pub knows_b : (c : Contents) (sides : Sides) → (d : Contents) × Standing (record { a = d; b = c }) sides → (m : Machine) × IsHere sides.b.own c sides.b sides.a.map sides.flights sides.tickets m
-knows_b c sides s = (s.1.0, here_b c s.0 sides s.1.0 s.1.1 s.1.2)
 
 few_tickets : (tickets n : ℕ) → tickets < 2 ^ 32 - 1 → n ≤ 1 → min (tickets + n) 4294967295 ≡ tickets + n
 few_tickets tickets n small one = omega arith
@@ -211,27 +177,14 @@ pub failed_a : (e : Event) (why : CoreError) (c c' d : Contents) (sides : Sides)
     → Performs e m (record { a = c; b = d }) sides (record { a = c'; b = d }) (record { a = core; b = sides.b; flights = flights; tickets = sides.tickets }) (Err why)
 failed_a e (failed.Memory changed) c c' d sides core flights m reached all h = λ same.
     let k = h m (here_a c d sides m reached all) same in
-    (ap (λ (x : ClusterCore). record sides { a = x; flights = flights }) k.0 ∙ ap (λ (fs : List Sent). record sides { flights = fs }) k.1.1, ap (λ (x : Contents). let two : Both Contents = record { a = x; b = d } in two) k.1.0)
+    (ap (λ (x : ClusterCore). record sides { a = x; flights = flights }) k.0 ∙ ap (λ (fs : List Sent). record sides { flights = fs }) k.2, ap (λ (x : Contents). let two : Both Contents = record { a = x; b = d } in two) k.1)
 
 pub failed_b : (e : Event) (why : CoreError) (c c' d : Contents) (sides : Sides) (core : ClusterCore) (flights : List Sent) (m : Machine) → Reached m → AllStand (record { a = d; b = c }) sides m
     → ((k : Machine) → IsHere sides.b.own c sides.b sides.a.map sides.flights sides.tickets k → FliesOr sides.b.own e k c sides.b sides.flights c' core flights (Err why))
     → Performs e m (record { a = d; b = c }) sides (record { a = d; b = c' }) (record { a = sides.a; b = core; flights = flights; tickets = sides.tickets }) (Err why)
 failed_b e (failed.Memory changed) c c' d sides core flights m reached all h = λ same.
     let k = h m (here_b c d sides m reached all) same in
-    (ap (λ (x : ClusterCore). record sides { b = x; flights = flights }) k.0 ∙ ap (λ (fs : List Sent). record sides { flights = fs }) k.1.1, ap (λ (x : Contents). let two : Both Contents = record { a = d; b = x } in two) k.1.0)
-
-pub told_a : (said : Reply) (c : Contents) (sides : Sides) (old new : Tally) → (d : Contents) × Standing (record { a = c; b = d }) sides → FaultTold sides.a.own said old new → FaultTold A said old new
-told_a said c sides old new s told = subst (λ (own : Cluster). FaultTold own said old new) s.1.2.a.own_is told
-
-pub told_b : (said : Reply) (c : Contents) (sides : Sides) (old new : Tally) → (d : Contents) × Standing (record { a = d; b = c }) sides → FaultTold sides.b.own said old new → FaultTold B said old new
-told_b said c sides old new s told = subst (λ (own : Cluster). FaultTold own said old new) s.1.2.b.own_is told
-
--- an event's cluster is that of the side that performs it
-pub at_a : (at : Cluster) (c : Contents) (sides : Sides) → at ≡ A → (d : Contents) × Standing (record { a = c; b = d }) sides → at ≡ sides.a.own
-at_a at c sides e s = e ∙ sym s.1.2.a.own_is
-
-pub at_b : (at : Cluster) (c : Contents) (sides : Sides) → at ≡ B → (d : Contents) × Standing (record { a = d; b = c }) sides → at ≡ sides.b.own
-at_b at c sides e s = e ∙ sym s.1.2.b.own_is
+    (ap (λ (x : ClusterCore). record sides { b = x; flights = flights }) k.0 ∙ ap (λ (fs : List Sent). record sides { flights = fs }) k.2, ap (λ (x : Contents). let two : Both Contents = record { a = d; b = x } in two) k.1)
 
 -- what a cluster knows of a flight that arrives
 pub to_sink : (own : Cluster) (c : Contents) (core : ClusterCore) (beside : Map) (flights : List Sent) (tickets k : ℕ) (m : Machine) → IsHere own c core beside flights tickets m → other (source_of k flights) ≡ own → IsSink own c core flights k m

@@ -22,7 +22,7 @@ use log_events::{roll, sync};
 use peer_events::peer;
 use queue_events::{confirm, send};
 use read_events::{get, show};
-use region_events::{open_begin, open_end, table};
+use region_events::{close_begin, open_begin, open_end, table};
 use region_meta::RegionMap;
 use rep_types::{
     Cells, Cluster, Duplicate, Event, Families, Items, Key, Kind, Name, Names, PeerId, Reply,
@@ -126,6 +126,7 @@ fn on_side<V: Vault>(
         } => make_table(core, alloc, own, name, specs),
         Event::OpenBegin { region, server, .. } => open_begin(core, alloc, own, *region, *server),
         Event::OpenEnd { region, .. } => open_end(core, alloc, own, *region),
+        Event::CloseBegin { region, .. } => close_begin(core, *region),
         Event::Put {
             table, row, cells, ..
         } => put_cells(core, alloc, own, table, row, cells, tickets + 1),

@@ -74,6 +74,7 @@ pub fn cluster_of(flights: &Items<Sent>, event: &Event) -> Cluster
         Event::Table { cluster, .. } => *cluster,
         Event::OpenBegin { cluster, .. } => *cluster,
         Event::OpenEnd { cluster, .. } => *cluster,
+        Event::CloseBegin { cluster, .. } => *cluster,
         Event::Put { cluster, .. } => *cluster,
         Event::Get { cluster, .. } => *cluster,
         Event::Show { cluster, .. } => *cluster,
