@@ -7,3 +7,6 @@ mod sides;
 
 pub use pair::{NoPair, Pair, StepError, Stores};
 pub use sides::Sides;
+
+#[cfg(test)]
+mod tests;

@@ -122,13 +122,18 @@ fn on_side<V: Vault>(
     match event {
         Event::Server { server: number, .. } => server(core, alloc, own, *number),
         Event::Table {
-            table: name, specs, ..
+            table: name,
+            specs,
+            ..
         } => make_table(core, alloc, own, name, specs),
         Event::OpenBegin { region, server, .. } => open_begin(core, alloc, own, *region, *server),
         Event::OpenEnd { region, .. } => open_end(core, alloc, own, *region),
         Event::CloseBegin { region, .. } => close_begin(core, *region),
         Event::Put {
-            table, row, cells, ..
+            table,
+            row,
+            cells,
+            ..
         } => put_cells(core, alloc, own, table, row, cells, tickets + 1),
         Event::Get { table, row, .. } => get(alloc, core, table, row),
         Event::Show { table, .. } => show(alloc, core, table),
@@ -141,7 +146,10 @@ fn on_side<V: Vault>(
             ..
         } => add_peer(core, alloc, own, beside, *peer, tables),
         Event::Send {
-            peer, server, most, ..
+            peer,
+            server,
+            most,
+            ..
         } => send(core, alloc, own, flights, *peer, *server, *most),
         Event::Deliver { flight } => deliver(core, alloc, own, flights, *flight),
         Event::Confirm { flight } => confirm(core, flights, *flight),
