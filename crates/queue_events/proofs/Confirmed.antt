@@ -1,6 +1,6 @@
 -- What memory tells of a flight is what the state tells, and recording it is the state's row.
-use Rattle.std.proofs.Common.{ℕ, zero, suc, ◌-◌, ◌≡◌, arith, ◌==◌, not, Bool, true, false, cond, List, [], ◌∷◌, map, find, length, slice_get, Option, Some, None, option_map, is_some, is_none, refl, ap, sym, ◌∙◌, subst, eqb-true, ne_eqb, if◌then◌else◌, MatchOption, IfSome, Ok}
-use Rattle.std.proofs.lemmas.Bool.{cond_both, false≢true, true≢false}
+use Rattle.std.proofs.Common.{ℕ, zero, suc, ◌-◌, ◌≡◌, arith, not, Bool, true, false, List, [], ◌∷◌, map, find, length, slice_get, Option, Some, None, option_map, is_some, refl, ap, sym, ◌∙◌, subst, eqb-true, ne_eqb, if◌then◌else◌, MatchOption, IfSome}
+use Rattle.std.proofs.lemmas.Bool.{cond_both, false≢true}
 use Rattle.std.proofs.lemmas.Option.{none-some, same_Some, slice_get-map}
 use Rattle.rep_types.specs.declared.ids.Cluster.{Cluster}
 use Rattle.rep_types.specs.declared.ids.Cluster.TheVariants.{A, B, C}
@@ -11,12 +11,11 @@ use Rattle.rep_types.specs.declared.reply.Reply.{Reply}
 use Rattle.rep_types.specs.declared.reply.Reply.TheVariants as reply
 use Rattle.rep_vault.specs.Contents.{Contents}
 use Rattle.rep_model.specs.Keyed.{given, if_some, replace}
-use Rattle.rep_model.specs.State.{of, with, other, is_peer, is_queue, is_flight, flight_of, queue_of, server_of}
+use Rattle.rep_model.specs.State.{of, with, other, is_peer, is_queue, is_flight, flight_of, queue_of}
 use Rattle.rep_model.specs.Peers.{is_removed, peer_of}
 use Rattle.rep_model.specs.Row.{Row, answers, first, unless}
 use Rattle.rep_model.specs.Rows.{row}
 use Rattle.rep_model.specs.Words.{is_paired}
-use Rattle.rep_model.specs.Runs.{state_of}
 use Rattle.rep_model.specs.QueueEvents.{is_out, flight_out, owner_of, owner_lives, flight_queue, flown, landed, recorded, confirm_refusals, confirm_row}
 use Rattle.rep_model.specs.declared.machine.Machine.{Machine}
 use Rattle.rep_model.specs.declared.machine.Side.{Side}
@@ -24,19 +23,16 @@ use Rattle.rep_model.specs.declared.machine.Peer.{Peer}
 use Rattle.rep_model.specs.declared.machine.Queue.{Queue}
 use Rattle.rep_model.specs.declared.machine.Flight.{Flight}
 use Rattle.rep_model.specs.declared.machine.Commit.{Commit}
-use Rattle.rep_model.specs.declared.machine.Server.{Server}
 use Rattle.rep_laws.proofs.Lists.{found_passes}
 use Rattle.rep_laws.proofs.Sides.{of_with, flights_with}
 use Rattle.rep_laws.proofs.Fronts.{noted}
 use Rattle.rep_laws.proofs.CitedMore.{flight_is_slot, flight_0_is_none}
 use Rattle.cluster_core.specs.declared.parts.ClusterCore.{ClusterCore}
 use Rattle.cluster_core.specs.declared.parts.Line.{Line}
-use Rattle.cluster_core.specs.declared.parts.PeerLine.{PeerLine}
 use Rattle.cluster_core.specs.declared.parts.Sent.{Sent}
-use Rattle.cluster_core.specs.declared.parts.Station.{Station}
 use Rattle.cluster_core.specs.Memory.{peer_line, queue_of_line}
 use Rattle.cluster_core.specs.Stands.{Stands}
-use Rattle.cluster_core.specs.Does.{Reached, sent_of, Flies, FliesOr}
+use Rattle.cluster_core.specs.Does.{Reached, sent_of, Flies}
 use Rattle.cluster_core.specs.Lookups.{is_line}
 use Rattle.cluster_core.specs.Lines.{added, lives, shelf_length, lands}
 use Rattle.cluster_core.proofs.Answering.{refused, let_through}
@@ -69,17 +65,17 @@ is_some-map f (Some x) = refl
 abbrev tests : ℕ → Bool → Option ℕ → Bool → ℕ → Bool → List (Bool × Refusal)
 tests k known out living owner delivered = (false, refusal.NoFlight) ∷ (not known, refusal.NoPeer) ∷ (not (is_out k out), refusal.Stale out) ∷ (not living, refusal.OwnerDead owner) ∷ (not delivered, refusal.NotDelivered k) ∷ []
 
-out_is : (o : Option Line) → line_out o ≡ flight_out (option_map queue_of_line o)
+pub out_is : (o : Option Line) → line_out o ≡ flight_out (option_map queue_of_line o)
 unfolding given
 out_is None = refl
 out_is (Some l) = refl
 
-owner_is : (o : Option Line) → line_owner o ≡ owner_of (option_map queue_of_line o)
+pub owner_is : (o : Option Line) → line_owner o ≡ owner_of (option_map queue_of_line o)
 unfolding given
 owner_is None = refl
 owner_is (Some l) = refl
 
-living_is : (c : Cluster) (contents : Contents) (core : ClusterCore) (m : Machine) → Stands c contents core (of c m) → (o : Option Line) → if_some o (λ (x : Line). lives x.owner core.stations) ≡ owner_lives c (option_map queue_of_line o) m
+pub living_is : (c : Cluster) (contents : Contents) (core : ClusterCore) (m : Machine) → Stands c contents core (of c m) → (o : Option Line) → if_some o (λ (x : Line). lives x.owner core.stations) ≡ owner_lives c (option_map queue_of_line o) m
 unfolding given
 living_is c contents core m k None = refl
 living_is c contents core m k (Some l) = lives_is contents (of c m) l.owner _ _ (k.servers l.owner)
@@ -134,7 +130,7 @@ out_found k (Some q) e = (q, refl, out q.flight e)
     out None h = absurd (false≢true h)
     out (Some n) h = ap Some (eqb-true n k h)
 
-line_found : (o : Option Line) (q : Queue) → option_map queue_of_line o ≡ Some q → (l : Line) × (o ≡ Some l) × (queue_of_line l ≡ q)
+pub line_found : (o : Option Line) (q : Queue) → option_map queue_of_line o ≡ Some q → (l : Line) × (o ≡ Some l) × (queue_of_line l ≡ q)
 line_found None q e = absurd (none-some q e)
 line_found (Some l) q e = (l, refl, same_Some (queue_of_line l) q e)
 
@@ -156,12 +152,12 @@ refused_is : (k : ℕ) (why : Refusal) (o : Option Flight) (m : Machine) → fli
 unfolding confirm_row
 refused_is k why o m there e = refused (first (confirm_refusals k (flight_of k m) m)) why m _ (ap (λ p. first (confirm_refusals k p m)) there ∙ e)
 
-other_with : (c : Cluster) (s : Side) (m : Machine) → is_paired c ≡ true → of (other c) (with c s m) ≡ of (other c) m
+pub other_with : (c : Cluster) (s : Side) (m : Machine) → is_paired c ≡ true → of (other c) (with c s m) ≡ of (other c) m
 other_with A s m p = refl
 other_with B s m p = refl
 other_with C s m p = absurd (false≢true p)
 
-flies_as : (own : Cluster) (r : Row) (m left : Machine) (c : Contents) (core : ClusterCore) (fs : List Sent) (said : Reply) → r ≡ answers said left → Stands own c core (of own left) → of (other own) left ≡ of (other own) m → fs ≡ map sent_of left.flights → Flies own r m c core fs said
+pub flies_as : (own : Cluster) (r : Row) (m left : Machine) (c : Contents) (core : ClusterCore) (fs : List Sent) (said : Reply) → r ≡ answers said left → Stands own c core (of own left) → of (other own) left ≡ of (other own) m → fs ≡ map sent_of left.flights → Flies own r m c core fs said
 flies_as own r m left c core fs said e stands beside flights = subst (λ (q : Row). Flies own q m c core fs said) (sym e) (record { reply_is = refl; stands = stands; beside = beside; flights_are = flights })
 
 pub refused_flies : (own : Cluster) (k : ℕ) (why : Refusal) (m : Machine) (c : Contents) (core : ClusterCore) (fs : List Sent) → first (confirm_refusals k (flight_of k m) m) ≡ Some why → Stands own c core (of own m) → fs ≡ map sent_of m.flights

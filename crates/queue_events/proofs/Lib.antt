@@ -1,1 +1,10 @@
+pub mod Batched
 pub mod Confirmed
+pub mod Formed
+pub mod Framing
+pub mod Going
+pub mod Pieces
+pub mod SendBars
+pub mod Sends
+pub mod Sources
+pub mod Taking

@@ -1,5 +1,5 @@
 -- What stands against recording a flight, as memory tells it, and what is left once it is recorded.
-use Rattle.std.specs.Prelude.{ℕ, ◌≡◌, not, is_some, is_none, Bool, List, [], ◌∷◌, find, Option, Some, None, IfSome, MatchOption}
+use Rattle.std.specs.Prelude.{ℕ, ◌≡◌, not, is_some, is_none, Bool, List, [], ◌∷◌, find, Option, None, IfSome, MatchOption}
 use Rattle.rep_types.specs.declared.refusal.Refusal.{Refusal}
 use Rattle.rep_types.specs.declared.refusal.Refusal.TheVariants as refusal
 use Rattle.rep_types.specs.declared.reply.Reply.{Reply}

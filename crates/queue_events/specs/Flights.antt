@@ -1,5 +1,5 @@
 -- Flights in memory, and what is out of a queue.
-use Rattle.std.specs.Prelude.{ℕ, ◌-◌, ◌==◌, ◌≡◌, ◌+◌, List, Option, Some, None, IfSome, if◌then◌else◌, slice_get}
+use Rattle.std.specs.Prelude.{ℕ, ◌-◌, ◌==◌, ◌≡◌, List, Option, None, IfSome, if◌then◌else◌, slice_get}
 use Rattle.rep_types.specs.declared.ids.Cluster.{Cluster}
 use Rattle.rep_model.specs.Keyed.{given}
 use Rattle.rep_model.specs.State.{flight_of}

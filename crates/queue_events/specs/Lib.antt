@@ -1,2 +1,4 @@
 pub mod Confirming
 pub mod Flights
+pub mod Reading
+pub mod Sending

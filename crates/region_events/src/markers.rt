@@ -1,5 +1,5 @@
 // Markers of openings, which are appended and synced at once.
-ghost use Rattle.std.specs.Prelude.{◌≡◌, ◌<◌, ◌≤◌, Some, IfOk, IfSome, MatchResult, length};
+ghost use Rattle.std.specs.Prelude.{◌≡◌, ◌<◌, Some, IfOk, IfSome, MatchResult, length};
 ghost use Rattle.rep_types.specs.declared.event.Event.TheVariants as event;
 ghost use Rattle.rep_types.specs.declared.entry.EntryKind.TheVariants as kind;
 ghost use Rattle.rep_vault.specs.Contents.{Contents};

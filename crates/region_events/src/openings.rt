@@ -1,4 +1,4 @@
-ghost use Rattle.std.specs.Prelude.{◌≡◌, ◌+◌, ◌-◌, ◌<◌, ◌≤◌, [], ◌∷◌, None, Some, IsSome, IfOk, IfSome, OnOk, length, slice_get};
+ghost use Rattle.std.specs.Prelude.{◌≡◌, ◌-◌, ◌<◌, ◌≤◌, None, Some, IsSome, IfOk, OnOk, length, slice_get};
 ghost use Rattle.std.specs.Option.{ForSome};
 ghost use Rattle.rep_vault.specs.Contents.{Contents};
 ghost use Rattle.rep_types.specs.declared.event.Event.TheVariants as event;

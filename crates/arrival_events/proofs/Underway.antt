@@ -1,0 +1,115 @@
+-- A delivery goes on by one form, stops at one, or ends.
+use Rattle.std.proofs.Common.{ℕ, zero, suc, ◌+◌, ◌<◌, ◌≤◌, ◌≡◌, Bool, cond, List, [], ◌∷◌, fold, length, drop, get_or, Option, Some, None, Result, Ok, refl, ap, sym, ◌∙◌, subst, arith, eq-eqb, ne_eqb}
+use Rattle.std.specs.List.{AllByRecursion}
+use Rattle.rep_types.specs.declared.ids.Cluster.{Cluster}
+use Rattle.rep_types.specs.declared.reply.Cause.{Cause}
+use Rattle.rep_vault.specs.Contents.{Contents}
+use Rattle.rep_vault.specs.Tallies.{Tally}
+use Rattle.rep_model.specs.State.{of}
+use Rattle.rep_model.specs.QueueEvents.{delivered, fails_at}
+use Rattle.rep_model.specs.declared.faults.Failing.{Failing}
+use Rattle.rep_model.specs.declared.machine.Form.{Form}
+use Rattle.rep_model.specs.declared.machine.Machine.{Machine}
+use Rattle.rep_model.proofs.Arriving.{delivered-goes, delivered-stops}
+use Rattle.cluster_core.specs.declared.parts.ClusterCore.{ClusterCore}
+use Rattle.cluster_core.specs.declared.parts.CoreError.{CoreError}
+use Rattle.cluster_core.specs.Does.{Counts}
+use Rattle.cluster_core.specs.Stands.{Stands}
+use Rattle.arrival_events.specs.Acks.{put_in}
+use Rattle.arrival_events.specs.Arriving.{IsMidway, fault_of, fault_at, Arrives}
+use Rattle.arrival_events.specs.Delivering.{Delivers}
+use Rattle.arrival_events.specs.Underway.{IsUnderway}
+use Rattle.arrival_events.specs.declared.arriving.Arrived.{Arrived}
+use Rattle.arrival_events.specs.declared.arriving.Arrived.TheVariants.{Taken, Stopped}
+use Rattle.arrival_events.proofs.Merging.{waited_self, nothing_new}
+
+pub all_at : {X : Type 0} (P : X → Type 0) (xs : List X) (at : ℕ) (d : X) → at < length xs → AllByRecursion P xs → P (get_or xs at d)
+all_at P [] at d h a = absurd (omega arith)
+all_at P (x ∷ xs) zero d h a = a.0
+all_at P (x ∷ xs) (suc at) d h a = all_at P xs at d (omega arith) a.1
+
+pub drop_end : {X : Type 0} (xs : List X) (n : ℕ) → length xs ≤ n → drop n xs ≡ []
+drop_end [] zero h = refl
+drop_end [] (suc n) h = refl
+drop_end (x ∷ xs) zero h = absurd (omega arith)
+drop_end (x ∷ xs) (suc n) h = drop_end xs n (omega arith)
+
+up_one : (j at : ℕ) → j < at → j < at + 1
+up_one j at h = omega arith
+
+last_one : (at : ℕ) → at < at + 1
+last_one at = omega arith
+
+apart : (j at : ℕ) → j < at → at ≡ j → ⊥
+apart j at h e = omega arith
+
+-- a fault at this place is at none before it
+earlier : (at : ℕ) (o : Option Cause) (j : ℕ) → j < at → fails_at (fault_at at o) j ≡ None
+earlier at None j h = refl
+earlier at (Some why) j h = ap (λ b. cond b (Some why) None) (ne_eqb at j (apart j at h))
+
+here : (at : ℕ) (o : Option Cause) → fails_at (fault_at at o) at ≡ o
+here at None = refl
+here at (Some why) = ap (λ b. cond b (Some why) None) (eq-eqb at at refl)
+
+pub begun : (own : Cluster) (peer : ℕ) (synchronous : Bool) (forms : List Form) (m : Machine) (c : Contents) (core : ClusterCore) → IsMidway own m → Stands own c core (of own m) → IsUnderway own peer synchronous forms m c core [] 0
+begun own peer synchronous forms m c core way stands = record {
+  now = m;
+  midway = way;
+  stands = stands;
+  beside = refl;
+  flights = refl;
+  waited = waited_self m.tickets;
+  acks_are = sym (nothing_new 1 m.tickets);
+  goes = λ failed h. refl;
+}
+
+module _ (own : Cluster) (peer : ℕ) (synchronous : Bool) (forms : List Form) (m : Machine) (old : Contents) (core : ClusterCore) (acks : List ℕ) (at : ℕ) (u : IsUnderway own peer synchronous forms m old core acks at) where
+  pub went : (form : Form) (c : Contents) (w : ClusterCore) (tickets more : List ℕ) → at < length forms → form ≡ get_or forms at form → more ≡ fold put_in acks tickets → Arrives own peer synchronous form u.now old core c w (Ok (Taken tickets))
+      → IsUnderway own peer synchronous forms m c w more (at + 1)
+  went form c w tickets more less is added a = record {
+    now = a.0;
+    midway = a.2.midway;
+    stands = a.2.stands;
+    beside = a.2.beside ∙ u.beside;
+    flights = a.2.flights ∙ u.flights;
+    waited = a.2.waited m.tickets u.waited;
+    acks_are = added ∙ (ap (λ xs. fold put_in xs tickets) u.acks_are ∙ sym (a.2.acks m.tickets u.waited));
+    goes = λ failed h. u.goes failed (λ j g. h j (up_one j at g)) ∙ delivered-goes peer synchronous own failed None at at forms form u.now a.0 less is (h at (last_one at)) a.1;
+  }
+
+  pub stopped_at : (form : Form) (c : Contents) (w : ClusterCore) (why : Cause) → at < length forms → form ≡ get_or forms at form → Arrives own peer synchronous form u.now old core c w (Ok (Stopped why))
+      → Delivers own peer synchronous forms m c w (record { arrived = at; acks = acks; stop = Some why })
+  stopped_at form c w why less is a = record {
+    left = a.0;
+    delivery = ap (λ (f : Option Failing). delivered peer synchronous own f 0 forms m) (a.3 at)
+        ∙ (u.goes (fault_at at (fault_of why)) (earlier at (fault_of why))
+        ∙ delivered-stops peer synchronous own (fault_at at (fault_of why)) (fault_of why) at at forms form u.now a.0 why less is (here at (fault_of why)) a.1);
+    stands = a.2.stands;
+    beside = a.2.beside ∙ u.beside;
+    flights = a.2.flights ∙ u.flights;
+    acks_are = u.acks_are ∙ sym (a.2.acks m.tickets u.waited);
+  }
+
+  pub ended : drop at forms ≡ [] → Delivers own peer synchronous forms m old core (record { arrived = at; acks = acks; stop = None })
+  ended none = record {
+    left = u.now;
+    delivery = u.goes None (λ j h. refl) ∙ ap (λ fs. delivered peer synchronous own None at fs u.now) none;
+    stands = u.stands;
+    beside = u.beside;
+    flights = u.flights;
+    acks_are = u.acks_are;
+  }
+
+-- an arrival, where memory tells the cluster
+pub by_own : (c own : Cluster) (peer : ℕ) (synchronous : Bool) (form : Form) (old new : Contents) (core core' : ClusterCore) (r : Result Arrived CoreError) → c ≡ own → ((m : Machine) → IsMidway c m → Stands c old core (of c m) → Arrives c peer synchronous form m old core new core' r)
+    → (m : Machine) → IsMidway own m → Stands own old core (of own m) → Arrives own peer synchronous form m old core new core' r
+by_own c own peer synchronous form old new core core' r is does = subst (λ (o : Cluster). (m : Machine) → IsMidway o m → Stands o old core (of o m) → Arrives o peer synchronous form m old core new core' r) is does
+
+-- ---- counts of faults
+
+upto : (a b c : ℕ) → a ≤ b → b ≤ c → a ≤ c
+upto a b c h g = omega arith
+
+pub counts_then : (old mid new : Tally) → Counts old mid → Counts mid new → Counts old new
+counts_then old mid new a b = record { kept = λ k. upto (old.faults k) (mid.faults k) (new.faults k) (a.kept k) (b.kept k); planned = b.planned ∙ a.planned }
