@@ -158,21 +158,24 @@ fn peered(alloc: Global, pair: &mut Pair<MemVault>) -> Result<(), Fail> {
 }
 
 // A server, a table and an open region in each cluster, and a peer of the first.
+fn open_all(alloc: Global, pair: &mut Pair<MemVault>) -> Result<(), Fail> {
+    joined(alloc, pair, Cluster::A)?;
+    joined(alloc, pair, Cluster::B)?;
+    made(alloc, pair, Cluster::A)?;
+    made(alloc, pair, Cluster::B)?;
+    opened(alloc, pair, Cluster::A)?;
+    opened(alloc, pair, Cluster::B)?;
+    peered(alloc, pair)
+}
+
 fn start(alloc: Global, a: MemVault) -> Result<Pair<MemVault>, Fail>
     requires { contents_of a ≡ new_contents }
 {
     let b = MemVault::new(alloc)?;
-    let Ok(mut pair) = Pair::new(alloc, a, b) else {
-        return Err("no pair".into());
-    };
-    joined(alloc, &mut pair, Cluster::A)?;
-    joined(alloc, &mut pair, Cluster::B)?;
-    made(alloc, &mut pair, Cluster::A)?;
-    made(alloc, &mut pair, Cluster::B)?;
-    opened(alloc, &mut pair, Cluster::A)?;
-    opened(alloc, &mut pair, Cluster::B)?;
-    peered(alloc, &mut pair)?;
-    Ok(pair)
+    match Pair::new(alloc, a, b) {
+        Ok(pair) => Ok(pair),
+        Err(_) => Err("no pair".into()),
+    }
 }
 
 fn put(alloc: Global, pair: &mut Pair<MemVault>) -> Result<(), Fail> {
@@ -232,19 +235,33 @@ fn reads(alloc: Global, pair: &mut Pair<MemVault>) -> Result<(), Fail> {
     steps(alloc, pair, Event::Show { cluster, table })
 }
 
+fn first_path(alloc: Global, pair: &mut Pair<MemVault>) -> Result<bool, Fail> {
+    open_all(alloc, pair)?;
+    put(alloc, pair)?;
+    sync_and_roll(alloc, pair)?;
+    ship(alloc, pair)?;
+    reads(alloc, pair)?;
+    pair.plan_keep(Cluster::A, 1)?;
+    let lives = pair.is_live(Cluster::A, server()?);
+    Ok(lives && prints(alloc, pair, OPENED, SHIPPED)?)
+}
+
+fn broken_log(alloc: Global, pair: &mut Pair<MemVault>) -> Result<bool, Fail> {
+    open_all(alloc, pair)?;
+    put(alloc, pair)?;
+    sync_and_roll(alloc, pair)?;
+    put(alloc, pair)?;
+    prints(alloc, pair, OPENED, BROKEN)
+}
+
 #[test]
 fn the_first_path_over_two_stores(rt: HostRuntime) -> Result<(), Fail> {
     let alloc = rt.alloc();
     let mut pair = start(alloc, MemVault::new(alloc)?)?;
-    put(alloc, &mut pair)?;
-    sync_and_roll(alloc, &mut pair)?;
-    ship(alloc, &mut pair)?;
-    reads(alloc, &mut pair)?;
-    assert!(rt; prints(alloc, &pair, OPENED, SHIPPED)?);
-    assert!(rt; pair.is_live(Cluster::A, server()?));
-    pair.plan_keep(Cluster::A, 1)?;
+    let done = first_path(alloc, &mut pair);
     let stores = pair.into_stores();
     assert!(rt; stores.a.faults() == 0);
+    assert!(rt; done?);
     Ok(())
 }
 
@@ -255,11 +272,9 @@ fn a_failed_append_breaks_a_log_until_it_rolls(rt: HostRuntime) -> Result<(), Fa
     // the second append is that of the put
     a.plan_failure(Call::Append, 2, 10)?;
     let mut pair = start(alloc, a)?;
-    put(alloc, &mut pair)?;
-    sync_and_roll(alloc, &mut pair)?;
-    put(alloc, &mut pair)?;
-    assert!(rt; prints(alloc, &pair, OPENED, BROKEN)?);
+    let done = broken_log(alloc, &mut pair);
     let stores = pair.into_stores();
     assert!(rt; stores.a.faults() == 1);
+    assert!(rt; done?);
     Ok(())
 }
