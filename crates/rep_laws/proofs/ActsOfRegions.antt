@@ -1,7 +1,7 @@
 -- Which acts the events of tables and regions are: table, openbegin, openend, closebegin, closeend, recover, flush, compact, split, merge, sweep.
 use Rattle.std.proofs.Common.{ℕ, suc, ◌+◌, ◌≤◌, ◌≡◌, ◌||◌, ◌⊎◌, inl, inr, Bool, true, false, not, List, [], ◌∷◌, ◌++◌, length, find, Option, Some, None, is_some, is_none, if◌then◌else◌, refl, ap, sym, ◌∙◌, subst, arith, eqb-true, eq-eqb, ne_eqb}
 use Rattle.std.specs.List.{AllByRecursion}
-use Rattle.std.proofs.lemmas.Bool.{not-false, false≢true, cases_eq}
+use Rattle.std.proofs.lemmas.Bool.{not-false, false≢true, true≢false, cases_eq}
 use Rattle.std.proofs.lemmas.Option.{same_Some}
 use Rattle.rep_types.specs.declared.ids.Cluster.{Cluster}
 use Rattle.rep_types.specs.declared.ids.Cluster.TheVariants as cluster
@@ -19,7 +19,7 @@ use Rattle.rep_model.specs.Keyed.{given, if_some, replace}
 use Rattle.rep_model.specs.State.{of, with, is_server, is_region, server_of, region_of, with_server, with_region}
 use Rattle.rep_model.specs.Words.{is_paired}
 use Rattle.rep_model.specs.Regions.{is_adjacent}
-use Rattle.rep_model.specs.Commits.{settled, settled_one}
+use Rattle.rep_model.specs.Commits.{commit_count, settled, settled_one}
 use Rattle.rep_model.specs.Places.{is_off, opens_at, on_at, closes_at, lost_at, is_named, table_of, is_closed, used, lacks_room}
 use Rattle.rep_model.specs.Needs.{log_needer}
 use Rattle.rep_model.specs.LogEvents.{own_pending, broken_by, emptied, synced_with}
@@ -27,6 +27,7 @@ use Rattle.rep_model.specs.RegionEvents.{too_many, table_row, place_of, moved, w
 use Rattle.rep_model.specs.Row.{site, run_sites, fault_among, is_put}
 use Rattle.rep_model.specs.declared.machine.Machine.{Machine}
 use Rattle.rep_model.specs.declared.machine.Side.{Side}
+use Rattle.rep_model.specs.declared.machine.Commit.{Commit}
 use Rattle.rep_model.specs.declared.machine.Pending.{Pending}
 use Rattle.rep_model.specs.declared.machine.Table.{Table}
 use Rattle.rep_model.specs.declared.machine.Hosted.{Hosted}
@@ -35,7 +36,7 @@ use Rattle.rep_model.specs.declared.machine.Server.{Server}
 use Rattle.rep_laws.proofs.Finding.{find_replaced, find_elsewhere, find_more}
 use Rattle.rep_laws.proofs.FrontMoves.{length_replaced}
 use Rattle.rep_laws.proofs.Sides.{of_with}
-use Rattle.rep_laws.proofs.Steps.{if_some_true, if_some_false, given_some, not_none}
+use Rattle.rep_laws.proofs.Steps.{if_some_true, if_some_false, if_some_there, given_some, not_none}
 use Rattle.rep_laws.proofs.DoesQueues.{given_is}
 use Rattle.rep_laws.proofs.DoesRegions.{placed_refusals, region_in}
 use Rattle.rep_laws.proofs.Numbering.{Numbered}
@@ -72,7 +73,7 @@ open_begin_acted c pair r s said m = simple_acted (
     let v = not_none (server_of c s m) none.1.0 in
     let live : v.0.live ≡ true = if_some_true (server_of c s m) (λ (w : Server). w.live) v.0 v.1 (not-false _ none.1.1.0) in
     let off : h.place ≡ place.Off = off_is h.place (ap is_off (sym (place_there c r m h e)) ∙ not-false _ none.1.1.1.0) in
-    record { acts = act (RegionTurns c pair h (opened s (barrier c r m) h) (region_again c r m h e) refl (subst (λ p. Turns c m p (place.Opening s)) (sym off) (Opens s v.0 v.1 live)) (inr (ap (λ k. with_barrier (barrier c k m) h.opens) (sym (region_number c r m h e))))) }))
+    record { acts = act (RegionTurns c pair h (opened s (barrier c r m) h) (region_again c r m h e) refl (subst (λ p. Turns c m p (place.Opening s)) (sym off) (Opens s v.0 v.1 live)) (record { opens = inr (ap (λ k. with_barrier (barrier c k m) h.opens) (sym (region_number c r m h e))); flushed = inl refl; begins = λ _. inr (ap (λ k. with_barrier (barrier c k m) h.opens) (sym (region_number c r m h e))) })) }))
 
 -- a marker's region and server are the cluster's, and the region is of such a place there
 pub record MarkerAt (at : PlaceOf → Option ℕ) (c : Cluster) (m : Machine) (x : Marking) : Type 0 where
@@ -113,9 +114,9 @@ settled_servers cluster.B s l (p ∷ ps) m = settled_servers cluster.B s l ps (s
 settled_servers cluster.C s l (p ∷ ps) m = settled_servers cluster.C s l ps (settled_one cluster.C s l p m)
 
 -- the marker is committed, and then the region moves
-marked_acts : (c : Cluster) → is_paired c ≡ true → (x : Marking) (k : EntryKind) (to : PlaceOf) (m : Machine) → Served c m x.server x.hosted.region → used c x.server m + frame_length k ≤ 65536 → OfTable k x.hosted.region → region_of c x.hosted.region.number m ≡ Some x.hosted
+marked_acts : (c : Cluster) → is_paired c ≡ true → (x : Marking) (k : EntryKind) (to : PlaceOf) (m : Machine) → Served c m x.server x.hosted.region → used c x.server m + frame_length k ≤ 65536 → OfTable k x.hosted.region → region_of c x.hosted.region.number m ≡ Some x.hosted → is_some (opens_at to) ≡ false
     → ((n : Machine) → server_of c x.server.number n ≡ Some (emptied x.server) → Turns c n x.hosted.place to) → Acts m (marked_at c x k to m)
-marked_acts c pair x k to m s room titled there turns =
+marked_acts c pair x k to m s room titled there ends turns =
     let v : Server = x.server in
     let p : Pending = own_pending c x.hosted.region k None in
     let new : Hosted = moved to x.hosted in
@@ -128,7 +129,7 @@ marked_acts c pair x k to m s room titled there turns =
     ap (λ (w : List Server). find (is_server v.number) w) (settled_servers c v.number v.log (v.pending ++ p ∷ []) m1 ∙ ap (λ (w : Side). w.servers) (of_with c side m))
     ∙ find_replaced (is_server v.number) (emptied v) v (of c m).servers (eq-eqb v.number v.number refl) s.found in
     subst (Acts m) (sym (ap (settled c v.number v.log (v.pending ++ p ∷ [])) (turned c new (emptied v) m) ∙ settled_turned c v.number v.log (v.pending ++ p ∷ []) new m1))
-    (acts_then (synced_one c pair v p m s room refl titled) (act (RegionTurns c pair x.hosted new found refl (turns mid empty) (inl refl))))
+    (acts_then (synced_one c pair v p m s room refl titled) (act (RegionTurns c pair x.hosted new found refl (turns mid empty) (record { opens = inl refl; flushed = inl refl; begins = λ o. absurd (true≢false (sym o ∙ ends)) }))))
 
 -- what a failed call leaves of a marker: it is committed, or pending in a broken log
 failed_acts : (committed : Bool) (c : Cluster) → is_paired c ≡ true → (x : Marking) (k : EntryKind) (m : Machine) → Served c m x.server x.hosted.region → used c x.server m + frame_length k ≤ 65536 → OfTable k x.hosted.region
@@ -152,7 +153,7 @@ open_end_acted c pair r said m = first_acted (marker_refusals opens_at c r m) (�
     fault_acted (fault_among (site c call.Append ∷ site c call.Sync ∷ []) said) said
     (λ f. given_acts (marking opens_at c r m) m _ (λ x e. failed_acts (is_put f.call) c pair x kind.Opened m (served x e) (marker_room opens_at c r m x e none) tt))
     (given_acted (marking opens_at c r m) still_acted (λ x e. record {
-      acts = marked_acts c pair x kind.Opened (place.On x.server.number) m (served x e) (marker_room opens_at c r m x e none) tt (marked_there opens_at c r m x e).region
+      acts = marked_acts c pair x kind.Opened (place.On x.server.number) m (served x e) (marker_room opens_at c r m x e none) tt (marked_there opens_at c r m x e).region refl
           (λ n _. subst (λ p. Turns c n p (place.On x.server.number)) (sym (is x e)) (Opened x.server.number));
     })))
 
@@ -160,7 +161,7 @@ pub close_begin_acted : (c : Cluster) → is_paired c ≡ true → (r : ℕ) (sa
 unfolding close_begin_row
 close_begin_acted c pair r said m = simple_acted (placed_refusals c r (is_some (on_at (place_of c r m))) m []) [] said (λ _.
     given_acted (region_of c r m) still_acted (λ h e. given_acted (on_at h.place) still_acted (λ s q. record {
-      acts = act (RegionTurns c pair h (moved (place.Closing s) h) (region_again c r m h e) refl (subst (λ p. Turns c m p (place.Closing s)) (sym (on_is h.place s q)) (Closes s)) (inl refl));
+      acts = act (RegionTurns c pair h (moved (place.Closing s) h) (region_again c r m h e) refl (subst (λ p. Turns c m p (place.Closing s)) (sym (on_is h.place s q)) (Closes s)) (record { opens = inl refl; flushed = inl refl; begins = λ o. absurd (false≢true o) }));
     })))
 
 pub close_end_acted : (c : Cluster) → is_paired c ≡ true → (r : ℕ) (said : Reply) (m : Machine) → Acted m (close_end_row c r said m)
@@ -172,7 +173,7 @@ close_end_acted c pair r said m = first_acted (marker_refusals closes_at c r m) 
     fault_acted (fault_among (site c call.Append ∷ site c call.Sync ∷ site c call.Put ∷ []) said) said
     (λ f. given_acts (marking closes_at c r m) m _ (λ x e. failed_acts (is_put f.call) c pair x kind.Closed m (served x e) (marker_room closes_at c r m x e none) tt))
     (given_acted (marking closes_at c r m) still_acted (λ x e. record {
-      acts = marked_acts c pair x kind.Closed place.Off m (served x e) (marker_room closes_at c r m x e none) tt (marked_there closes_at c r m x e).region
+      acts = marked_acts c pair x kind.Closed place.Off m (served x e) (marker_room closes_at c r m x e none) tt (marked_there closes_at c r m x e).region refl
           (λ n empty. Leaves x.hosted.place x.server.number (emptied x.server) (ap (is_at x.server.number) (is x e) ∙ eq-eqb x.server.number x.server.number refl) empty (inl refl));
     })))
 
@@ -180,11 +181,6 @@ close_end_acted c pair r said m = first_acted (marker_refusals closes_at c r m) 
 
 abbrev lost_server : Cluster → ℕ → Machine → ℕ
 lost_server c r m = given (lost_at (place_of c r m)) 0 (λ s. s)
-
-if_some_there : {X : Type 0} (o : Option X) (test : X → Bool) → if_some o test ≡ true → (x : X) × (o ≡ Some x) × (test x ≡ true)
-unfolding given
-if_some_there None test h = absurd (false≢true h)
-if_some_there (Some x) test h = (x, refl, h)
 
 recovered : (c : Cluster) (r : ℕ) (m : Machine) (h : Hosted) → region_of c r m ≡ Some h → is_some (lost_at (place_of c r m)) ≡ true → if_some (server_of c (lost_server c r m) m) (λ srv. srv.sealed) ≡ true → Turns c m h.place place.Off
 recovered c r m h e lost sealed =
@@ -194,19 +190,23 @@ recovered c r m h e lost sealed =
     let number : lost_server c r m ≡ s.0 = given_is (lost_at (place_of c r m)) 0 (λ k. k) s.0 s.1 in
     Leaves h.place s.0 v.0 (ap (is_at s.0) at ∙ eq-eqb s.0 s.0 refl) (ap (λ k. server_of c k m) (sym number) ∙ v.1) (inr v.2)
 
+-- a flush makes all commits of the region flushed
+all_flushed : (c : Cluster) (r : ℕ) (m : Machine) (h : Hosted) → region_of c r m ≡ Some h → (flushed c r m h).flushed ≡ commit_count h.region.number (of c m).commits
+all_flushed c r m h e = ap (λ k. commit_count k (of c m).commits) (sym (region_number c r m h e))
+
 pub recover_acted : (c : Cluster) → is_paired c ≡ true → (r : ℕ) (said : Reply) (m : Machine) → Acted m (recover_row c r said m)
 unfolding recover_row
 recover_acted c pair r said m = simple_acted (placed_refusals c r (is_some (lost_at (place_of c r m))) m (
     (not (if_some (server_of c (lost_server c r m) m) (λ srv. srv.sealed)), refusal.NotSealed (lost_server c r m))
     ∷ [])) (site c call.Read ∷ run_sites c (site c call.Put ∷ [])) said
     (λ none. given_acted (region_of c r m) still_acted (λ h e. record {
-      acts = act (RegionTurns c pair h (moved place.Off (flushed c r m h)) (region_again c r m h e) refl (recovered c r m h e (not-false _ none.1.0) (not-false _ none.1.1.0)) (inl refl));
+      acts = act (RegionTurns c pair h (moved place.Off (flushed c r m h)) (region_again c r m h e) refl (recovered c r m h e (not-false _ none.1.0) (not-false _ none.1.1.0)) (record { opens = inl refl; flushed = inr (all_flushed c r m h e); begins = λ o. absurd (false≢true o) }));
     }))
 
 pub flush_acted : (c : Cluster) → is_paired c ≡ true → (r : ℕ) (said : Reply) (m : Machine) → Acted m (flush_row c r said m)
 unfolding flush_row
 flush_acted c pair r said m = simple_acted (placed_refusals c r (is_some (on_at (place_of c r m))) m []) (run_sites c (site c call.Put ∷ [])) said
-    (λ _. given_acted (region_of c r m) still_acted (λ h e. record { acts = act (RegionTurns c pair h (flushed c r m h) (region_again c r m h e) refl (Stays h.place) (inl refl)) }))
+    (λ _. given_acted (region_of c r m) still_acted (λ h e. record { acts = act (RegionTurns c pair h (flushed c r m h) (region_again c r m h e) refl (Stays h.place) (record { opens = inl refl; flushed = inr (all_flushed c r m h e); begins = λ o. inl o })) }))
 
 pub compact_acted : (c : Cluster) → (r : ℕ) (said : Reply) (m : Machine) → Acted m (compact_row c r said m)
 unfolding compact_row
@@ -270,16 +270,18 @@ split_acted c pair r key said m = simple_acted (placed_refusals c r (is_off (pla
     (λ none. given_acted (region_of c r m) still_acted (λ h e.
     let m1 : Machine = with_region c (retired c r m h) m in
     record {
-      acts = acts_then (act (RegionTurns c pair h (retired c r m h) (region_again c r m h e) refl (retires c r m h e (not-false _ none.1.0)) (inl refl)))
+      acts = acts_then (act (RegionTurns c pair h (retired c r m h) (region_again c r m h e) refl (retires c r m h e (not-false _ none.1.0)) (record { opens = inl refl; flushed = inr (all_flushed c r m h e); begins = λ o. absurd (false≢true o) })))
           (act (RegionsJoin c pair (of c m1).tables _ (two_numbered (length (of c m1).regions) (length (of c m).regions) (still_long c (retired c r m h) m)) (refl, (refl, tt)) (λ n q. q) (let gone = gone_now c m h (retired c r m h) (region_again c r m h e) refl in ((gone, tt), ((gone, tt), tt))) (refl, (refl, tt))));
     }))
 
 -- the second of two regions retires behind the first, which may be the same
 retires_behind : (c : Cluster) → is_paired c ≡ true → (g h gone new : Hosted) (m : Machine) → region_of c g.region.number m ≡ Some g → region_of c h.region.number m ≡ Some h
-    → gone.region ≡ g.region → gone.place ≡ place.Gone → gone.opens ≡ g.opens → new.region ≡ h.region → new.place ≡ place.Gone → new.opens ≡ h.opens → h.place ≡ place.Off → Act (with_region c gone m) (with_region c new (with_region c gone m))
-retires_behind c pair g h gone new m there here same is_gone left again to kept off =
+    → gone.region ≡ g.region → gone.place ≡ place.Gone → gone.opens ≡ g.opens → new.region ≡ h.region → new.place ≡ place.Gone → new.opens ≡ h.opens → new.flushed ≡ commit_count h.region.number (of c m).commits → h.place ≡ place.Off → Act (with_region c gone m) (with_region c new (with_region c gone m))
+retires_behind c pair g h gone new m there here same is_gone left again to kept whole off =
     let side : Side = record (of c m) { regions = replace (is_region gone.region.number) gone (of c m).regions } in
     let m1 : Machine = with_region c gone m in
+    let unopened : is_some (opens_at new.place) ≡ false = ap (λ p. is_some (opens_at p)) to in
+    let commits : (of c m1).commits ≡ (of c m).commits = ap (λ (s : Side). s.commits) (of_with c side m) in
     let n : gone.region.number ≡ g.region.number = ap (λ (r : Region). r.number) same in
     let k : new.region.number ≡ h.region.number = ap (λ (r : Region). r.number) again in
     let now : (w : List Hosted) → w ≡ replace (is_region gone.region.number) gone (of c m).regions → find (is_region new.region.number) (of c m1).regions ≡ find (is_region h.region.number) w =
@@ -292,13 +294,13 @@ retires_behind c pair g h gone new m there here same is_gone left again to kept 
           (now _ refl ∙ (ap (λ j. find (is_region j) (replace (is_region gone.region.number) gone (of c m).regions)) (sym e) ∙ find_replaced (is_region gone.region.number) gone g (of c m).regions (eq-eqb gone.region.number gone.region.number refl) old))
           (again ∙ (ap (λ (x : Hosted). x.region) (sym one) ∙ sym same))
           (subst (λ p. Turns c m1 p new.place) (sym is_gone) (subst (λ p. Turns c m1 place.Gone p) (sym to) StaysGone))
-          (inl (kept ∙ (ap (λ (x : Hosted). x.opens) (sym one) ∙ sym left)))
+          (record { opens = inl (kept ∙ (ap (λ (x : Hosted). x.opens) (sym one) ∙ sym left)); flushed = inr (whole ∙ (ap (λ j. commit_count j (of c m).commits) (sym e) ∙ ap (λ (w : List Commit). commit_count gone.region.number w) (sym commits))); begins = λ o. absurd (false≢true (sym unopened ∙ o)) })
           )
       | inr apart ↦ RegionTurns c pair h new
           (now _ refl ∙ (find_elsewhere (is_region gone.region.number) (is_region h.region.number) gone (of c m).regions (ne_eqb gone.region.number h.region.number apart) (λ y t. ne_eqb y.region.number h.region.number (λ z. apart (sym (eqb-true y.region.number gone.region.number t) ∙ z))) ∙ here))
           again
           (subst (λ p. Turns c m1 p new.place) (sym off) (subst (λ p. Turns c m1 place.Off p) (sym to) Retires))
-          (inl kept)
+          (record { opens = inl kept; flushed = inr (whole ∙ ap (λ (w : List Commit). commit_count h.region.number w) (sym commits)); begins = λ o. absurd (false≢true (sym unopened ∙ o)) })
     ]
 
 one_numbered : (a b : ℕ) → a ≡ b → Numbered (a + 1) ((b + 1) ∷ [])
@@ -322,8 +324,8 @@ merge_acted c pair r s said m = simple_acted (
     let m2 : Machine = with_region c new m1 in
     let off : h.place ≡ place.Off = off_is h.place (ap is_off (sym (place_there c s m h f)) ∙ not-false _ none.1.1.1.0) in
     record {
-      acts = acts_then (acts_then (act (RegionTurns c pair g gone (region_again c r m g e) refl (retires c r m g e (not-false _ none.1.1.0)) (inl refl)))
-          (act (retires_behind c pair g h gone new m (region_again c r m g e) (region_again c s m h f) refl refl refl refl refl refl off)))
+      acts = acts_then (acts_then (act (RegionTurns c pair g gone (region_again c r m g e) refl (retires c r m g e (not-false _ none.1.1.0)) (record { opens = inl refl; flushed = inr (all_flushed c r m g e); begins = λ o. absurd (false≢true o) })))
+          (act (retires_behind c pair g h gone new m (region_again c r m g e) (region_again c s m h f) refl refl refl refl refl refl (all_flushed c s m h f) off)))
           (act (RegionsJoin c pair (of c m2).tables _ (one_numbered (length (of c m2).regions) (length (of c m).regions) (still_long c new m1 ∙ still_long c gone m)) (refl, tt) (λ n q. q)
           ((gone_still c m1 new g.region.number refl (gone_now c m g gone (region_again c r m g e) refl), (gone_behind c m h gone new (region_again c s m h f) refl, tt)), tt) (refl, tt)));
     })))

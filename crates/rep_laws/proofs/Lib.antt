@@ -60,9 +60,13 @@ pub mod LogsPart
 pub mod TablesPart
 pub mod LowestPart
 pub mod OpensPart
+pub mod FlushedPart
+pub mod SpansPart
 pub mod Steady
 pub mod CitedMore
 pub mod CitedLogs
+pub mod CitedFlushed
+pub mod CitedSpans
 pub mod Lengths
 pub mod RowLengths
 pub mod RowLeaves

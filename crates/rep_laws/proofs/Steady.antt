@@ -18,6 +18,8 @@ use Rattle.rep_laws.proofs.LogsPart.{Logged, LogIn, act_logged}
 use Rattle.rep_laws.proofs.TablesPart.{Tabled, TableIn, act_tabled, replays_tabled}
 use Rattle.rep_laws.proofs.LowestPart.{Lowest, LowestIn, act_lowest}
 use Rattle.rep_laws.proofs.OpensPart.{OpensReached, act_opens}
+use Rattle.rep_laws.proofs.FlushedPart.{Flushed, FlushedIn, act_flushed}
+use Rattle.rep_laws.proofs.SpansPart.{Spans, SpanIn, act_spans}
 
 pub record Steady (m : Machine) : Type 0 where
   pub seats : Seats m
@@ -28,6 +30,8 @@ pub record Steady (m : Machine) : Type 0 where
   pub tabled : Tabled m
   pub lowest : Lowest m
   pub opens : OpensReached m
+  pub flushed : Flushed m
+  pub spans : Spans m
 
 nothing_seated : SeatIn empty_side
 nothing_seated = record { servers_differ = tt; resting = tt; numbered = tt; working = tt; placed = tt; known = tt; parents = tt }
@@ -50,6 +54,12 @@ nothing_tabled = record { pending = tt; committed = tt; written = tt }
 nothing_lowest : LowestIn empty_side
 nothing_lowest = record { kept = λ p v i j. absurd i; current = λ v i. absurd i }
 
+nothing_flushed : FlushedIn empty_side
+nothing_flushed = record { unswept = λ h v i j. absurd i }
+
+nothing_spans : SpanIn empty_side
+nothing_spans = record { alike = λ h x y i. absurd i; present = λ h x s i. absurd i }
+
 opening_steady : Steady opening
 opening_steady = record {
   seats = record { a = nothing_seated; b = nothing_seated };
@@ -60,6 +70,8 @@ opening_steady = record {
   tabled = record { a = nothing_tabled; b = nothing_tabled; a_covers = tt; b_covers = tt };
   lowest = record { a = nothing_lowest; b = nothing_lowest };
   opens = record { a = tt; b = tt };
+  flushed = record { a = nothing_flushed; b = nothing_flushed };
+  spans = record { a = nothing_spans; b = nothing_spans };
 }
 
 acts_steady : (m new : Machine) → Acts m new → Steady m → Steady new
@@ -73,6 +85,8 @@ acts_steady m new (After xs x) k = let mid = acts_steady m _ xs k in record {
   tabled = act_tabled _ _ x mid.tabled;
   lowest = act_lowest _ _ x mid.seats mid.logged mid.lowest;
   opens = act_opens _ _ x mid.opens;
+  flushed = act_flushed _ _ x mid.seats mid.logged mid.lowest mid.flushed;
+  spans = act_spans _ _ x mid.seats mid.logged mid.opens mid.spans;
 }
 
 steady_from : (rs : List Record) (m : Machine) (n : Counts) → Lawful m → Steady m → LegalFrom m n rs → Steady (state_from m rs)

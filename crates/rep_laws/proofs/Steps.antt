@@ -1,7 +1,7 @@
 -- What the forms of rows make of moves, and the moves that many events share.
 use Rattle.std.proofs.Common.{ℕ, zero, suc, ◌-◌, ◌≡◌, ◌==◌, ◌&&◌, inl, Bool, true, false, List, [], ◌∷◌, ◌++◌, Option, Some, None, is_some, is_none, slice_get, slice_set, refl, ap, sym, ◌∙◌, subst, eqb-true, if◌then◌else◌}
 use Rattle.std.specs.List.{AllByRecursion}
-use Rattle.std.proofs.lemmas.Bool.{cond_both, true≢false}
+use Rattle.std.proofs.lemmas.Bool.{cond_both, true≢false, false≢true}
 use Rattle.std.proofs.lemmas.Option.{none-some, same_Some}
 use Rattle.rep_types.specs.declared.ids.Cluster.{Cluster}
 use Rattle.rep_types.specs.declared.entry.EntryId.{EntryId}
@@ -81,6 +81,11 @@ pub if_some_false : {X : Type 0} (o : Option X) (test : X → Bool) (x : X) → 
 unfolding given
 if_some_false None test x e h = absurd (none-some x e)
 if_some_false (Some y) test x e h = ap test (sym (same_Some y x e)) ∙ h
+
+pub if_some_there : {X : Type 0} (o : Option X) (test : X → Bool) → if_some o test ≡ true → (x : X) × (o ≡ Some x) × (test x ≡ true)
+unfolding given
+if_some_there None test h = absurd (false≢true h)
+if_some_there (Some x) test h = (x, refl, h)
 
 pub not_some : {X : Type 0} (o : Option X) → is_some o ≡ false → o ≡ None
 not_some None h = refl
