@@ -1,8 +1,14 @@
 pub mod Begun
+pub mod Closed
 pub mod Doubted
+pub mod Emptied
 pub mod Ended
 pub mod Refused
 pub mod RollBegun
 pub mod RollDone
+pub mod SealDone
+pub mod SealedOff
+pub mod Shut
 pub mod SyncDone
+pub mod Taken
 pub mod Unbegun

@@ -1,2 +1,4 @@
-pub mod Refusals
+pub mod Kept
 pub mod NextLog
+pub mod Refusals
+pub mod SealedLog

@@ -1,12 +1,8 @@
--- What the end of a server's log leaves of memory, the store and the state.
+-- What the end of a server's log leaves of memory, the store and the state, where its next log follows.
 use Rattle.std.specs.Prelude.{◌+◌, ◌≡◌, false, [], length, take, Result, Ok, Err}
 use Rattle.rep_types.specs.declared.ids.Cluster.{Cluster}
-use Rattle.rep_types.specs.declared.state.Call.TheVariants as call
 use Rattle.rep_vault.specs.Contents.{Contents}
-use Rattle.wal_roll.specs.declared.error.LogError.{LogError}
-use Rattle.wal_roll.specs.declared.error.LogError.TheVariants as failed
-use Rattle.wal_roll.specs.Log.{Log, LogValue, wal, log_name}
-use Rattle.wal_roll.specs.Kept.{IsSealed}
+use Rattle.wal_roll.specs.Log.{LogValue}
 use Rattle.region_server.specs.Host.{HostValue}
 use Rattle.rep_model.specs.LogEvents.{next_log}
 use Rattle.rep_model.specs.declared.machine.Side.{Side}
@@ -22,16 +18,6 @@ use Rattle.log_events.specs.declared.ending.Ended.{Ended}
 -- a host that has this log, and nothing pending
 abbrev pub new_host : LogValue → HostValue
 new_host w = record { log = w; pending = []; tickets = [] }
-
--- a host's log is sealed, and the next one stands in its place; after a call that failed all is as before
-abbrev pub Ends : Log → LogValue → HostValue → Contents → HostValue → Contents → Result Ended LogError → Type 0
-Ends log next h old h' new (Ok ended) =
-    let n = length ended.entries in
-    (ended.entries ≡ take n h.pending) × (n + ended.dropped ≡ length h.pending) × (ended.tickets ≡ h.tickets) × (h' ≡ new_host next) × IsSealed (new.files wal (log_name log.server log.number)) log n
-Ends log next h old h' new (Err failed.Broken) = ⊥
-Ends log next h old h' new (Err (failed.NeedRoll used need limit)) = ⊥
-Ends log next h old h' new (Err (failed.StoreFault kind count)) = (kind ≡ call.Seal) × (h' ≡ h) × (new ≡ old)
-Ends log next h old h' new (Err failed.Memory) = Unit {0}
 
 -- at Ok the first entries that were pending are committed, and the server has its next log; after a call that failed all is as
 -- before

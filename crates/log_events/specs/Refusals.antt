@@ -39,3 +39,18 @@ roll_refusal s side = first (roll_refusals s (find (is_server s) side.servers))
 abbrev pub pending_refusal : ℕ → Station → Option Refusal
 pending_refusal s st = let n = length st.host.log.lengths in
     first ((not st.live, refusal.Dead s) ∷ (not st.host.log.broken && not (n == 0), refusal.Pending n) ∷ [])
+
+-- the row's, of a seal
+abbrev pub seal_refusals : ℕ → Option Server → List (Bool × Refusal)
+seal_refusals s o =
+    (is_none o, refusal.NoServer)
+    ∷ (if_some o (λ srv. srv.live), refusal.Alive s)
+    ∷ (if_some o (λ srv. srv.sealed), refusal.Sealed)
+    ∷ []
+
+abbrev pub seal_refusal : ℕ → Side → Option Refusal
+seal_refusal s side = first (seal_refusals s (find (is_server s) side.servers))
+
+-- those that a station knows of
+abbrev pub closed_refusal : ℕ → Station → Option Refusal
+closed_refusal s st = first ((st.live, refusal.Alive s) ∷ (st.sealed, refusal.Sealed) ∷ [])

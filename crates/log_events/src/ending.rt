@@ -1,10 +1,10 @@
-// A server's log is sealed, and the next one stands in its place.
-ghost use Rattle.std.specs.Prelude.{◌≡◌, ◌+◌, ◌<◌, ◌^◌, ℕ, [], false, length, slice_get, slice_set, Some, Err};
+// The two ends of a server's log: the next one stands in its place, or it stays as a dead server's sealed log.
+ghost use Rattle.std.specs.Prelude.{◌≡◌, ◌+◌, ◌<◌, ℕ, [], true, false, length, slice_get, slice_set, Some, Err};
 ghost use Rattle.rep_types.specs.declared.state.Call.TheVariants.{Seal};
-ghost use Rattle.wal_roll.specs.Log.{Log, wal, log_name, IsWriter};
-ghost use Rattle.wal_roll.specs.Steps.{OnlyFile, new_log};
-ghost use Rattle.wal_roll.specs.Blamed.{Blamed, IsFault};
-ghost use Rattle.region_server.specs.Host.{HostValue, IsHost, Stands as HostStands};
+ghost use Rattle.wal_roll.specs.Log.{IsWriter};
+ghost use Rattle.wal_roll.specs.Steps.{new_log};
+ghost use Rattle.wal_roll.specs.Blamed.{IsFault};
+ghost use Rattle.region_server.specs.Host.{Stands as HostStands};
 ghost use Rattle.rep_model.specs.declared.machine.Side.{Side};
 ghost use Rattle.cluster_core.specs.declared.parts.Station.{Station};
 ghost use Rattle.cluster_core.specs.declared.committing.CommitError.TheVariants as error;
@@ -14,14 +14,16 @@ ghost use Rattle.cluster_core.specs.Orderly.{IsOrderly};
 ghost use Rattle.cluster_core.specs.Lookups.{HasStation};
 ghost use Rattle.cluster_core.specs.Stands.{Stands};
 ghost use Rattle.cluster_core.specs.Does.{Counts};
-ghost use Rattle.log_events.specs.NextLog.{Ends, RollsOn};
+ghost use Rattle.log_events.specs.NextLog.{new_host, RollsOn};
+ghost use Rattle.log_events.specs.SealedLog.{SealsOff};
 
-use cluster_core::{ClusterCore, CommitError, Station, log_fits};
-use region_server::Host;
+use crate::keeping::seal_pending;
+use cluster_core::{ClusterCore, CommitError, Station};
+use region_server::Kept;
 use rep_types::{Entries, Items, Tickets};
 use rep_vault::Vault;
 use std::alloc::Global;
-use wal_roll::{LogError, LogWriter};
+use wal_roll::LogWriter;
 
 /// What the seal of a log kept of its pending entries: the first ones, in order, and how many others are gone; and the
 /// tickets of puts among all of them.
@@ -32,59 +34,27 @@ pub struct Ended {
     pub tickets: Tickets,
 }
 
-fn host_at(stations: &Items<Station>, at: usize) -> &Host
-    requires { at < length stations.now }
-    ensures { (st : Station) → slice_get stations.now at ≡ Some st → result.now ≡ st.host }
-{
-    &stations.as_slice()[at].host
-}
-
-// Seals the host's log, gives up its tickets, and goes on with the next log.
-fn end<V: Vault>(host: &mut Host, own: &mut V, next: LogWriter) -> Result<Ended, LogError>
-    requires stands { HostStands (V.contents own.old) host.old }
-    requires own { next.server ≡ host.old.log.server }
-    requires fresh { next.lengths ≡ [] }
-    ensures does { (log : Log) → IsHost (V.contents own.old) host.old log
-        → Ends log next host.old (V.contents own.old) host.new (V.contents own.new) result }
-    ensures frame { OnlyFile wal (log_name host.old.log.server host.old.log.number) (V.contents own.old) (V.contents own.new) }
-    ensures blamed { Blamed (V.tally own.old) (V.tally own.new) result }
-{
-    match host.seal(own) {
-        Ok(kept) => {
-            let tickets = host.give_up();
-            host.set_log(next);
-            Ok(Ended {
-                entries: kept.entries,
-                dropped: kept.dropped,
-                tickets,
-            })
-        }
-        Err(error) => Err(error),
-    }
-}
-
-// The same at the station at this place.
-fn end_at<V: Vault>(
-    stations: &mut Items<Station>,
-    own: &mut V,
-    at: usize,
-    next: LogWriter,
-) -> Result<Ended, LogError>
+// The server of the station at this place gives up its tickets, and goes on with this log.
+fn go_on(stations: &mut Items<Station>, at: usize, next: LogWriter) -> Tickets
     requires within { at < length stations.old }
-    requires stands { (st : Station) → slice_get stations.old at ≡ Some st → HostStands (V.contents own.old) st.host }
+    requires none { (st : Station) → slice_get stations.old at ≡ Some st → st.host.pending ≡ [] }
     requires own { (st : Station) → slice_get stations.old at ≡ Some st → next.server ≡ st.host.log.server }
     requires fresh { next.lengths ≡ [] }
-    ensures does { (st : Station) (log : Log) → slice_get stations.old at ≡ Some st → IsHost (V.contents own.old) st.host log
-        → (h : HostValue) × (stations.new ≡ slice_set stations.old at (record st { host = h })) × Ends log next st.host (V.contents own.old) h (V.contents own.new) result }
-    ensures frame { (st : Station) → slice_get stations.old at ≡ Some st
-        → OnlyFile wal (log_name st.host.log.server st.host.log.number) (V.contents own.old) (V.contents own.new) }
-    ensures server { (st : Station) → slice_get stations.old at ≡ Some st → st.host.log.server < 2 ^ 32 }
-    ensures number { (st : Station) → slice_get stations.old at ≡ Some st → st.host.log.number < 2 ^ 32 }
-    ensures blamed { Blamed (V.tally own.old) (V.tally own.new) result }
+    ensures tickets { (st : Station) → slice_get stations.old at ≡ Some st → result ≡ st.host.tickets }
+    ensures left { (st : Station) → slice_get stations.old at ≡ Some st → stations.new ≡ slice_set stations.old at (record st { host = new_host next }) }
 {
     let station = stations.at_mut(at);
-    log_fits(&station.host);
-    end(&mut station.host, own, next)
+    let tickets = station.host.give_up();
+    station.host.set_log(next);
+    tickets
+}
+
+// The log of the station at this place counts as sealed.
+fn close(stations: &mut Items<Station>, at: usize)
+    requires { at < length stations.old }
+    ensures { (st : Station) → slice_get stations.old at ≡ Some st → stations.new ≡ slice_set stations.old at (record st { sealed = true }) }
+{
+    stations.at_mut(at).sealed = true;
 }
 
 /// Ends the log of the station at this place, by one call of the store, and goes on with the server's next log, which is
@@ -108,26 +78,37 @@ pub fn end_log<V: Vault>(
     ensures counts { Counts (V.tally own.old) (V.tally own.new) }
     ensures told { (count : ℕ) → result ≡ Err (error.StoreFault count) → IsFault Seal count (V.tally own.old) (V.tally own.new) }
 {
-    let host = host_at(&core.stations, at);
-    let server = host.server();
-    let log = host.log().number();
-    let from = host.log().synced();
-    match end_at(&mut core.stations, own, at, next) {
-        Ok(ended) => {
-            match core
-                .index
-                .absorb(alloc, server, log, from, ended.entries.as_slice())
-            {
-                Ok(()) => {
-                    core.index.forget(&core.map, server);
-                    Ok(ended)
-                }
-                Err(_) => Err(CommitError::Memory { changed: true }),
-            }
+    match seal_pending(core, alloc, own, at) {
+        Ok(kept) => Ok(Ended {
+            tickets: go_on(&mut core.stations, at, next),
+            entries: kept.entries,
+            dropped: kept.dropped,
+        }),
+        Err(error) => Err(error),
+    }
+}
+
+/// Seals the log of a dead server's station at this place, by one call of the store. What the seal kept is committed, and
+/// nothing is pending then; no log follows.
+pub fn seal_log<V: Vault>(
+    core: &mut ClusterCore,
+    alloc: Global,
+    own: &mut V,
+    at: usize,
+) -> Result<Kept, CommitError>
+    requires within { at < length core.old.stations }
+    requires stands { (st : Station) → slice_get core.old.stations at ≡ Some st → HostStands (V.contents own.old) st.host }
+    ensures does { (side : Side) (s : ℕ) (here : HasStation (V.contents own.old) side core.old.stations s at) → here.server.sealed ≡ false → here.server.live ≡ false
+        → IsOrderly side → Stands core.old.own (V.contents own.old) core.old side
+        → SealsOff core.old.own (V.contents own.old) core.old side here.server (V.contents own.new) core.new result }
+    ensures counts { Counts (V.tally own.old) (V.tally own.new) }
+    ensures told { (count : ℕ) → result ≡ Err (error.StoreFault count) → IsFault Seal count (V.tally own.old) (V.tally own.new) }
+{
+    match seal_pending(core, alloc, own, at) {
+        Ok(kept) => {
+            close(&mut core.stations, at);
+            Ok(kept)
         }
-        Err(LogError::StoreFault { count, .. }) => Err(CommitError::StoreFault { count }),
-        Err(LogError::Memory) => Err(CommitError::Memory { changed: true }),
-        Err(LogError::Broken) => unreachable!(),
-        Err(LogError::NeedRoll { .. }) => unreachable!(),
+        Err(error) => Err(error),
     }
 }

@@ -1,96 +1,65 @@
--- What the seal kept, what memory took in of it, and that the next log stands in the old one's place.
-use Rattle.std.proofs.Common.{ℕ, List, length, take, drop, set, Result, Ok, Err, refl, ap, sym, ◌∙◌, subst, false}
-use Rattle.rep_types.specs.declared.state.Call.{Call}
-use Rattle.rep_types.specs.declared.state.Call.TheVariants.{Seal}
+-- The sealed log's station gives way to one with the next log.
+use Rattle.std.proofs.Common.{ℕ, length, take, sym, ◌∙◌, subst, Err, false}
 use Rattle.rep_vault.specs.Contents.{Contents}
-use Rattle.rep_vault.specs.Tallies.{Tally}
-use Rattle.wal_roll.specs.Blamed.{IsFault}
-use Rattle.wal_roll.specs.Log.{LogValue}
-use Rattle.region_server.specs.Host.{HostValue}
+use Rattle.region_server.specs.declared.host.Kept.{Kept}
 use Rattle.rep_model.specs.LogEvents.{next_log}
+use Rattle.rep_model.specs.declared.machine.Side.{Side}
 use Rattle.rep_model.specs.declared.machine.Server.{Server}
 use Rattle.cluster_core.specs.declared.committing.CommitError.{CommitError}
 use Rattle.cluster_core.specs.declared.committing.CommitError.TheVariants.{StoreFault, Memory}
 use Rattle.cluster_core.specs.declared.parts.Station.{Station}
 use Rattle.cluster_core.specs.declared.parts.ClusterCore.{ClusterCore}
+use Rattle.rep_types.specs.declared.ids.Cluster.{Cluster}
 use Rattle.cluster_core.specs.Absorbing.{committed_side}
 use Rattle.cluster_core.specs.Logs.{log_of}
 use Rattle.cluster_core.specs.Stands.{Stands}
-use Rattle.cluster_core.proofs.Accepted.{same_stations}
-use Rattle.cluster_core.proofs.Places.{taken_place}
-use Rattle.cluster_core.proofs.Synced.{host_stands, pending_long}
-use Rattle.log_events.specs.declared.ending.Ended.{Ended}
-use Rattle.log_events.proofs.Ended.{are_first, found_between, index_now, rolled_on}
+use Rattle.log_events.specs.Kept.{sealed_host, Keeps}
+use Rattle.log_events.specs.NextLog.{new_host, RollsOn}
+use Rattle.log_events.proofs.Emptied.{still_within, same_station}
+use Rattle.log_events.proofs.Shut.{kept_there, core_left}
+use Rattle.log_events.proofs.Ended.{rolled_on}
 use Rattle.log_events.proofs.ending.end_log.Goals as goal
 
-pub unreachable-requires : goal.unreachable-requires
-unreachable-requires g c =
-    let there = taken_place c.args.core.now.stations c.args.at c.requires.within in
-    let k = c.requires.stands there.0 there.1 in
-    let given = c.in-Err-Broken.ensures.does there.0 k.0 there.1 k.1 in
-    let d = rw c.in-Err-Broken.field-0-is at given in
-    d.2
+pub go_on-requires-clause-within : goal.go_on-requires-clause-within
+go_on-requires-clause-within g c = still_within c.args.core.now.stations c.seal_pending.new.core.stations c.args.at c.requires.within c.in-Ok.ensures.emptied
 
-pub unreachable-requires-in-Err-NeedRoll : goal.unreachable-requires-in-Err-NeedRoll
-unreachable-requires-in-Err-NeedRoll g c =
-    let there = taken_place c.args.core.now.stations c.args.at c.requires.within in
-    let k = c.requires.stands there.0 there.1 in
-    let given = c.in-Err-NeedRoll.ensures.does there.0 k.0 there.1 k.1 in
-    let d = rw c.in-Err-NeedRoll.field-0-is at given in
-    d.2
+pub go_on-requires-clause-none : goal.go_on-requires-clause-none
+go_on-requires-clause-none g c = λ st there.
+    let same = same_station c.args.core.now.stations c.seal_pending.new.core.stations c.args.at c.requires.within c.in-Ok.ensures.emptied st there in
+    same.none
 
-pub returns-in-Ok-absorb-clause-does : goal.returns-in-Ok-absorb-clause-does
-returns-in-Ok-absorb-clause-does g c = λ side s here sealed o none writer told stands.
+pub go_on-requires-clause-own : goal.go_on-requires-clause-own
+go_on-requires-clause-own g c = λ st there.
+    let same = same_station c.args.core.now.stations c.seal_pending.new.core.stations c.args.at c.requires.within c.in-Ok.ensures.emptied st there in
+    c.requires.own same.was same.there ∙ sym same.server
+
+pub returns-in-Ok-clause-does : goal.returns-in-Ok-clause-does
+returns-in-Ok-clause-does g c = λ side s here sealed o none writer told stands.
     let core : ClusterCore = c.args.core.now in
-    let next : LogValue = c.args.next in
+    let mid : ClusterCore = c.seal_pending.new.core in
     let old : Contents = g.V.Vault.contents c.args.own.now in
-    let new : Contents = g.V.Vault.contents c.end_at.new.own in
+    let new : Contents = g.V.Vault.contents c.seal_pending.new.own in
     let srv : Server = here.server in
-    let n : ℕ = length c.in-Ok.ended.entries in
-    let was = host_stands old side here.station here.server here.stands sealed in
-    let d = c.in-Ok.ensures.does here.station (log_of side.commits here.server) here.there was in
-    let small = c.in-Ok.ensures.server here.station here.there in
-    let few = c.in-Ok.ensures.number here.station here.there in
-    let frame = c.in-Ok.ensures.frame here.station here.there in
-    let host = c.host_at-host.ensures here.station here.there in
-    let first = are_first core.own old new core side s c.args.at here next n stands o sealed small few frame c.as_slice.result.now c.number-log.result c.synced-from.result (c.as_slice.ensures ∙ d.2.0)
-    (c.number-log.ensures ∙ (ap (λ (w : LogValue). w.number) c.log.ensures.log ∙ ap (λ (h : HostValue). h.log.number) host))
-    (c.synced-from.ensures ∙ (ap (λ (w : LogValue). w.synced) c.log-2.ensures.log ∙ ap (λ (h : HostValue). h.log.synced) host)) in
-    let number = sym (c.server-server.ensures ∙ (ap (λ (h : HostValue). h.log.server) host ∙ ap (λ (w : LogValue). w.server) was.writer.same)) in
-    let between : Server = record srv { pending = drop n srv.pending } in
-    let absorbed = c.in-Ok-absorb.ensures side srv between (take n srv.pending) (drop n srv.pending) number first refl refl o stands.index in
-    let forgotten = c.forget.ensures (committed_side srv between (take n srv.pending) side) between (next_log false srv) (found_between core.own old new core side s c.args.at here next n stands o sealed small few frame) number refl refl stands.regions absorbed in
-    let index = index_now core.own old new core side s c.args.at here next n stands o sealed small few frame c.forget.new.self forgotten in
-    let stations = d.1 ∙ ap (λ (h : HostValue). set core.stations c.args.at (record here.station { host = h })) d.2.3 in (
-      d.2.1 ∙ (ap length was.pending ∙ pending_long srv.number srv.log side.commits srv.pending),
-      d.2.2 ∙ here.stands.tickets,
-      subst (λ (sts : List Station). Stands core.own new (record core { stations = sts; index = c.forget.new.self }) (committed_side srv (next_log false srv) (take n srv.pending) side)) (sym stations)
-          (rolled_on core.own old new core side s c.args.at here next n stands o sealed small few frame none writer d.2.4 told c.forget.new.self index),
+    let kept : Kept = c.in-Ok.kept in
+    let k = c.in-Ok.ensures.does side s here sealed o stands in
+    let sealed_station : Station = record here.station { host = sealed_host (length kept.entries) (log_of side.commits srv) here.station.host } in
+    let there = kept_there core.own old new core mid side s c.args.at here kept stands o k in
+    let st : Station = record here.station { host = new_host c.args.next } in
+    let is = core_left core.own old new core mid side s c.args.at here kept stands o k st c.go_on.new.stations (c.go_on.ensures.left sealed_station there) in (
+      k.count,
+      c.go_on.ensures.tickets sealed_station there ∙ here.stands.tickets,
+      subst (λ (x : ClusterCore). Stands core.own new x (committed_side srv (next_log false srv) (take (length kept.entries) srv.pending) side)) (sym is)
+          (rolled_on core.own old new core mid side s c.args.at here kept stands o k c.args.next sealed none writer told),
     )
 
-pub returns-in-Err-StoreFault-clause-does : goal.returns-in-Err-StoreFault-clause-does
-returns-in-Err-StoreFault-clause-does g c = λ side s here sealed o none writer told stands.
+-- what failed left all as it was
+of_error : (own : Cluster) (old new : Contents) (core core' : ClusterCore) (side : Side) (srv : Server) (st : Station) (at : ℕ) (e : CommitError)
+    → Keeps old core side srv st at new core' (Err e) → RollsOn own old core side srv new core' (Err e)
+of_error own old new core core' side srv st at (StoreFault count) k = k
+of_error own old new core core' side srv st at (Memory changed) k = tt
+
+pub returns-in-Err-clause-does : goal.returns-in-Err-clause-does
+returns-in-Err-clause-does g c = λ side s here sealed o none writer told stands.
     let core : ClusterCore = c.args.core.now in
-    let was = host_stands (g.V.Vault.contents c.args.own.now) side here.station here.server here.stands sealed in
-    let given = c.in-Err-StoreFault.ensures.does here.station (log_of side.commits here.server) here.there was in
-    let d = rw c.in-Err-StoreFault.field-0-is at given in
-    let same = d.1 ∙ same_stations core.stations c.args.at here.station d.0 here.there d.2.1 in
-    ((λ i. record core { stations = same i }), d.2.2)
-
-abbrev count_in : Result Ended CommitError → ℕ
-count_in (Ok ended) = 0
-count_in (Err (StoreFault n)) = n
-count_in (Err (Memory changed)) = 0
-
--- a host's only call is a seal
-pub returns-in-Err-StoreFault-clause-told : goal.returns-in-Err-StoreFault-clause-told
-returns-in-Err-StoreFault-clause-told g c = λ count e.
-    let there = taken_place c.args.core.now.stations c.args.at c.requires.within in
-    let k = c.requires.stands there.0 there.1 in
-    let given = c.in-Err-StoreFault.ensures.does there.0 k.0 there.1 k.1 in
-    let d = rw c.in-Err-StoreFault.field-0-is at given in
-    let old : Tally = g.V.Vault.tally c.args.own.now in
-    let new : Tally = g.V.Vault.tally c.end_at.new.own in
-    let blamed = rw c.in-Err-StoreFault.field-0-is at c.in-Err-StoreFault.ensures.blamed in
-    let same = ap count_in (rw c.in-Err-StoreFault.field-0-is at e) in
-    subst (λ (n : ℕ). IsFault Seal n old new) same (subst (λ (j : Call). IsFault j c.in-Err-StoreFault.count old new) d.2.0 (blamed.fault c.in-Err-StoreFault.field-0-0 c.in-Err-StoreFault.count refl))
+    of_error core.own (g.V.Vault.contents c.args.own.now) (g.V.Vault.contents c.seal_pending.new.own) core c.seal_pending.new.core side here.server here.station c.args.at c.in-Err.error
+    (c.in-Err.ensures.does side s here sealed o stands)
