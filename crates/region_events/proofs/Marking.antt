@@ -70,6 +70,12 @@ fault_here c k n rest (inr e) = subst (λ j. fault_among (site c call.Append ∷
     by B = refl
     by C = refl
 
+-- and so is a failed put, where it is the row's third call
+pub put_here : (c : Cluster) (n : ℕ) → fault_among (site c call.Append ∷ site c call.Sync ∷ site c call.Put ∷ []) (reply.StoreFault c call.Put n) ≡ Some (site c call.Put)
+put_here A n = refl
+put_here B n = refl
+put_here C n = refl
+
 left_broken : (c : Cluster) (srv : Server) (p : Pending) (k : Call) (m : Machine) → (k ≡ call.Append) ⊎ (k ≡ call.Sync) → marker_left c srv p k m ≡ broken_by c srv p m
 left_broken c srv p k m (inl e) = ap (λ (j : Call). marker_left c srv p j m) e
 left_broken c srv p k m (inr e) = ap (λ (j : Call). marker_left c srv p j m) e
@@ -77,6 +83,9 @@ left_broken c srv p k m (inr e) = ap (λ (j : Call). marker_left c srv p j m) e
 module _ (at : PlaceOf → Option ℕ) (c : Cluster) (r : ℕ) (m : Machine) where
   pub no_region : find (is_region r) (of c m).regions ≡ None → first (marker_refusals at c r m) ≡ Some refusal.NoRegion
   no_region e = ap (λ (o : Option Hosted). first (tests c o (marking at c r m) m)) e
+
+  pub row_refused : (goes : ℕ → PlaceOf) (k : EntryKind) (rest : List Site) (said : Reply) (why : Refusal) → first (marker_refusals at c r m) ≡ Some why → marker_row at goes k rest c r said m ≡ answers (reply.Refused why) m
+  row_refused goes k rest said why e = refused (first (marker_refusals at c r m)) why m _ e
 
   module _ (h : Hosted) (known : find (is_region r) (of c m).regions ≡ Some h) where
     pub wrong_place : marking at c r m ≡ None → first (marker_refusals at c r m) ≡ Some (refusal.WrongPlace h.place)
@@ -127,13 +136,18 @@ module _ (at : PlaceOf → Option ℕ) (c : Cluster) (r : ℕ) (m : Machine) whe
       open_log : x.server.whole ≡ true → lacks_room c x.server 32 m ≡ false → first (log_refusals c x m) ≡ None
       open_log whole room = λ i. first ((not (whole i), refusal.Broken x.server.log) ∷ (room i, refusal.NeedRoll x.server.number (capped (used c x.server m)) 32) ∷ [])
 
+      -- a call failed, one of the row's
+      pub row_faulted : (j : Call) (n : ℕ) → x.server.whole ≡ true → lacks_room c x.server 32 m ≡ false → fault_among (site c call.Append ∷ site c call.Sync ∷ rest) (reply.StoreFault c j n) ≡ Some (site c j)
+          → marker_row at goes k rest c r (reply.StoreFault c j n) m ≡ answers (reply.StoreFault c j n) (marker_left c x.server (own_pending c x.hosted.region k None) j m)
+      row_faulted j n whole room among =
+          row_is (reply.StoreFault c j n)
+          ∙ (λ i. unless (open_log whole room i) m (or_fault (among i) (reply.StoreFault c j n) (λ failed. marker_left c x.server (own_pending c x.hosted.region k None) failed.call m) done))
+
       pub row_failed : (j : Call) (n : ℕ) → x.server.whole ≡ true → lacks_room c x.server 32 m ≡ false → (j ≡ call.Append) ⊎ (j ≡ call.Sync)
           → marker_row at goes k rest c r (reply.StoreFault c j n) m ≡ answers (reply.StoreFault c j n) (broken_by c x.server (own_pending c x.hosted.region k None) m)
       row_failed j n whole room which =
-          let said : Reply = reply.StoreFault c j n in
-          row_is said
-          ∙ ((λ i. unless (open_log whole room i) m (or_fault (fault_here c j n rest which i) said (λ failed. marker_left c x.server (own_pending c x.hosted.region k None) failed.call m) done))
-          ∙ ap (λ (n' : Machine). answers said n') (left_broken c x.server (own_pending c x.hosted.region k None) j m which))
+          row_faulted j n whole room (fault_here c j n rest which)
+          ∙ ap (λ (n' : Machine). answers (reply.StoreFault c j n) n') (left_broken c x.server (own_pending c x.hosted.region k None) j m which)
 
       -- no call failed
       pub row_done : (said : Reply) → x.server.whole ≡ true → lacks_room c x.server 32 m ≡ false → fault_among (site c call.Append ∷ site c call.Sync ∷ rest) said ≡ None → marker_row at goes k rest c r said m ≡ answers (marker_reply c x m after) after

@@ -5,7 +5,7 @@ use Rattle.rep_types.specs.declared.table.Family.{Family}
 use Rattle.region_barriers.specs.History.{last_barrier}
 use Rattle.rep_types.specs.declared.state.PlaceOf.TheVariants as place
 use Rattle.rep_vault.specs.declared.store.Change.{Change}
-use Rattle.region_meta.specs.Regions.{region_of}
+use Rattle.region_meta.specs.Regions.{Map, region_of}
 use Rattle.region_meta.specs.Changes.{table_added, placed}
 use Rattle.region_meta.specs.declared.region.Region.{Region}
 use Rattle.rep_model.specs.RegionEvents.{with_barrier}
@@ -62,3 +62,12 @@ pub record IsPrepared (core : ClusterCore) (r s n : ℕ) (changes : List Change)
 -- the last barrier of the region with the trace at this place isn't above this one
 abbrev pub Reaches : ℕ → ℕ → List Trace → Type 0
 Reaches n k traces = (t : Trace) → slice_get traces k ≡ Some t → ForSome (last_barrier t.barriers) (λ last. last ≤ n)
+
+-- the record of a region that is Off
+abbrev pub off_changes : Region → List Change
+off_changes x = setting (OfRegion x.number) (region_text x.table x.low x.high place.Off x.parents) ∷ []
+
+pub record IsOffRecord (map : Map) (r : ℕ) (changes : List Change) : Type 0 where
+  pub region : Region
+  pub found : region_of r map ≡ Some region
+  pub texts : changes ≡ off_changes region
