@@ -1,1 +1,5 @@
+pub mod Crashed
+pub mod Losing
+pub mod RegionsLost
 pub mod ServerAdded
+pub mod Untold
