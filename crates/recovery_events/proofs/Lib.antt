@@ -1,0 +1,4 @@
+pub mod Holding
+pub mod Readable
+pub mod Recovered
+pub mod Told
