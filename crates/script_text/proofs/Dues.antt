@@ -10,8 +10,8 @@ use Rattle.rep_model.specs.declared.machine.Machine.{Machine}
 use Rattle.script_text.specs.declared.command.Command.{Command}
 use Rattle.script_text.specs.declared.command.Command.TheVariants as command
 use Rattle.script_text.specs.Drains.{numbers, start, drain_event, drain_end}
-use Rattle.script_text.specs.Due.{reply_in, due, Does, ExpandsFrom}
-use Rattle.script_text.specs.Expansion.{asks_state, next_event, GoesOn, Performs, Expands}
+use Rattle.script_text.specs.Due.{reply_in, goes_on, due, Does, ExpandsFrom}
+use Rattle.script_text.specs.Expansion.{passes, asks_state, next_event, GoesOn, Performs, Expands}
 
 pub due-same : (c : Command) (m : Machine) (rs : List Record) → asks_state c ≡ false → due c m rs ≡ next_event c (map reply_in rs)
 due-same (command.Single e) m rs h = refl
@@ -51,6 +51,16 @@ pub expands-from : (m : Machine) (cs : List Command) (records : List Record) →
 expands-from m [] records h e = e
 expands-from m (c ∷ cs) records h e =
     (e.0, e.1, e.2, does c m [] e.0 h.0 e.3, expands-from (state_from m e.0) cs e.1 h.1 e.4)
+
+-- a command that asks for the state too goes on where its last reply passes
+pub last-passes : (rs : List Record) (xs : List Reply) (x : Reply) → map reply_in rs ≡ xs ++ x ∷ [] → goes_on rs ≡ passes x
+last-passes [] [] x e = absurd (cc e)
+last-passes [] (y ∷ ys) x e = absurd (cc e)
+last-passes (r ∷ []) [] x e = let same : r.reply ≡ x = cc e in ap passes same
+last-passes (r ∷ []) (y ∷ []) x e = absurd (cc e)
+last-passes (r ∷ []) (y ∷ z ∷ ys) x e = absurd (cc e)
+last-passes (r ∷ s ∷ rs) [] x e = absurd (cc e)
+last-passes (r ∷ s ∷ rs) (y ∷ ys) x e = let rest : map reply_in (s ∷ rs) ≡ ys ++ x ∷ [] = cc e in last-passes (s ∷ rs) ys x rest
 
 -- with nothing in either cluster, a drain makes no event and ends
 nothing-due : due command.Drain opening [] ≡ None

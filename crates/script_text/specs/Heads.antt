@@ -2,6 +2,8 @@
 use Rattle.std.specs.Prelude.{ℕ, Bool, true, false, List, codes, Option, Some, None, if◌then◌else◌}
 use Rattle.std.specs.Option.{option_map, option_or}
 use Rattle.std.specs.Str.{bytes_eq}
+use Rattle.rep_types.specs.declared.state.Kind.{Kind}
+use Rattle.rep_types.specs.declared.state.Kind.TheVariants as kind
 use Rattle.script_text.specs.declared.head.OnCluster.{OnCluster}
 use Rattle.script_text.specs.declared.head.OnCluster.TheVariants as on_cluster
 use Rattle.script_text.specs.declared.head.OnServer.{OnServer}
@@ -114,33 +116,29 @@ head_of word =
 
 -- the program performs the command; some it doesn't yet
 abbrev pub is_performed : Head → Bool
+is_performed (head.OnCluster on_cluster.SyncAll) = true
 is_performed (head.OnCluster on_cluster.Queues) = true
 is_performed (head.OnCluster on_cluster.Regions) = true
 is_performed (head.OnCluster word) = false
 is_performed (head.OnPeer word) = false
-is_performed (head.OnServer on_server.Roll) = false
-is_performed (head.OnServer on_server.Crash) = false
-is_performed (head.OnServer on_server.Seal) = false
 is_performed (head.OnServer on_server.Sweep) = false
 is_performed (head.OnServer on_server.SweepRemote) = false
 is_performed (head.OnServer on_server.Mirror) = false
-is_performed (head.OnRegion on_region.CloseBegin) = false
-is_performed (head.OnRegion on_region.CloseEnd) = false
-is_performed (head.OnRegion on_region.Recover) = false
 is_performed (head.OnRegion on_region.Flush) = false
 is_performed (head.OnRegion on_region.Compact) = false
-is_performed (head.OnRegion on_region.Close) = false
-is_performed (head.OnPlace on_place.Move) = false
 is_performed (head.OnFlight on_flight.Lose) = false
 is_performed (head.Alone alone.Drain) = false
-is_performed head.Get = false
 is_performed head.Split = false
 is_performed head.Merge = false
 is_performed head.Claim = false
 is_performed head.TransitBegin = false
-is_performed head.Fail = false
-is_performed head.Keep = false
 is_performed _ = true
+
+-- the program adds peers of the kind; of some it doesn't yet
+abbrev pub is_performed_kind : Kind → Bool
+is_performed_kind kind.Plain = true
+is_performed_kind kind.Serial = false
+is_performed_kind kind.Synchronous = false
 
 -- the lines after `--` may not hold the command
 abbrev pub is_barred : Head → Bool

@@ -2,6 +2,7 @@
 use Rattle.std.specs.Prelude.{ℕ, List, codes, Result, Ok, Err, if◌then◌else◌}
 use Rattle.rep_types.specs.declared.ids.Cluster.{Cluster}
 use Rattle.rep_types.specs.declared.event.Event.TheVariants as event
+use Rattle.rep_types.specs.declared.state.Kind.{Kind}
 use Rattle.script_text.specs.declared.command.Command.{Command}
 use Rattle.script_text.specs.declared.command.Command.TheVariants as command
 use Rattle.script_text.specs.declared.head.OnCluster.{OnCluster}
@@ -14,6 +15,7 @@ use Rattle.script_text.specs.declared.head.Alone.{Alone}
 use Rattle.script_text.specs.declared.rule.Rule.{Rule}
 use Rattle.script_text.specs.declared.rule.Rule.TheVariants as rule
 use Rattle.script_text.specs.Forms.{number_word, cluster_word, name_word, key_word, kind_word, state_word, call_word}
+use Rattle.script_text.specs.Heads.{is_performed_kind}
 use Rattle.script_text.specs.Lists.{specs_word, tables_word}
 use Rattle.script_text.specs.Makings.{cluster_command, server_command, region_command, peer_command, place_command, flight_command, alone_command}
 use Rattle.script_text.specs.Steps.{◌>>=◌}
@@ -105,7 +107,11 @@ show args = cluster_and_one args >>= λ (c, x). name_word x >>= λ t. Ok (comman
 unfoldable pub split : List (List ℕ) → Result Command Rule
 split args = cluster_and_two args >>= λ (c, x, y). number_word 1 4096 x >>= λ r. key_word y >>= λ key. Ok (command.Single (event.Split c r key))
 
+-- a kind of which no peer is added yet is an unknown word
+unfoldable pub performed_kind : List ℕ → Result Kind Rule
+performed_kind word = kind_word word >>= λ kind. if is_performed_kind kind then Ok kind else Err rule.Words
+
 unfoldable pub peer : List (List ℕ) → Result Command Rule
 peer args =
     cluster_and_three args >>= λ (c, x, y, z).
-    number_word 1 4 x >>= λ p. kind_word y >>= λ kind. tables_word z >>= λ tables. Ok (command.Single (event.Peer c p kind tables))
+    number_word 1 4 x >>= λ p. performed_kind y >>= λ kind. tables_word z >>= λ tables. Ok (command.Single (event.Peer c p kind tables))

@@ -1,6 +1,10 @@
 // The events of a command, one after the other.
-ghost use Rattle.std.specs.Prelude.{◌≡◌, ◌<◌, false, length, IfOk, IfSome};
+ghost use Rattle.std.specs.Prelude.{◌≡◌, ◌<◌, ◌≤◌, false, List, length, map, slice_get, IfOk, IfSome};
 ghost use Rattle.std.specs.Option.{option_map};
+ghost use Rattle.rep_types.specs.declared.record.Record.{Record};
+ghost use Rattle.rep_model.specs.declared.machine.Machine.{Machine};
+ghost use Rattle.script_text.specs.Drains.{live_servers};
+ghost use Rattle.script_text.specs.Due.{reply_in, goes_on, due};
 ghost use Rattle.script_text.specs.Expansion.{passes, flight_sent, only_if, asks_state, next_event};
 
 use crate::Command;
@@ -117,6 +121,44 @@ fn confirm_event(sent: &Reply, arrived: &Reply) -> Option<Event>
     match flight_sent(sent) {
         Some(flight) => Some(Event::Confirm { flight }),
         None => None,
+    }
+}
+
+// Whether there is no reply yet, or the last one is `ok` or `all`.
+fn goes_on(replies: &[Reply]) -> bool
+    ensures { (rs : List Record) → replies.now ≡ map reply_in rs → result ≡ goes_on rs }
+{
+    match replies.split_last() {
+        Some((last, _)) => passes(last),
+        None => true,
+    }
+}
+
+// A sync of the server at this place, where there is one.
+fn sync_at(cluster: Cluster, live: &[ServerId], at: usize) -> Option<Event>
+    ensures event { result ≡ option_map (Event.Sync cluster) (slice_get live.now at) }
+    ensures within { IfSome result (λ _. at < length live.now) }
+{
+    match live.get(at) {
+        Some(server) => Some(Event::Sync {
+            cluster,
+            server: *server,
+        }),
+        None => None,
+    }
+}
+
+/// The next event of `syncall`, after the replies to its earlier ones: `live` are the servers that lived when it began.
+/// It goes on after `ok` and `all` alone, and each server is synced once.
+pub fn sync_all_event(cluster: Cluster, live: &[ServerId], replies: &[Reply]) -> Option<Event>
+    ensures event { (m : Machine) (rs : List Record) → live.now ≡ live_servers cluster m
+        → replies.now ≡ map reply_in rs → result ≡ due (Command.SyncAll cluster) m rs }
+    ensures few { length live.now ≤ 64 → IfSome result (λ _. length replies.now < 64) }
+{
+    if goes_on(replies) {
+        sync_at(cluster, live, replies.len())
+    } else {
+        None
     }
 }
 

@@ -2,9 +2,10 @@
 #![tactic(auto, unfolding(crate::specs::Heads::on_cluster_word, crate::specs::Heads::on_server_word, crate::specs::Heads::on_region_word, crate::specs::Heads::on_peer_word, crate::specs::Heads::on_place_word, crate::specs::Heads::on_flight_word, crate::specs::Heads::alone_word, crate::specs::Heads::other_word, crate::specs::Heads::head_of))]
 
 ghost use Rattle.std.specs.Prelude.{◌≡◌};
-ghost use Rattle.script_text.specs.Heads.{on_cluster_word, on_server_word, on_region_word, on_peer_word, on_place_word, on_flight_word, alone_word, other_word, head_of, is_performed, is_barred};
+ghost use Rattle.script_text.specs.Heads.{on_cluster_word, on_server_word, on_region_word, on_peer_word, on_place_word, on_flight_word, alone_word, other_word, head_of, is_performed, is_performed_kind, is_barred};
 
 use crate::forms::is_text;
+use rep_types::Kind;
 
 /// A word with a cluster alone.
 #[derive(Clone, Copy)]
@@ -331,32 +332,30 @@ pub fn is_performed(head: Head) -> bool
     ensures { result ≡ is_performed head }
 {
     match head {
-        Head::OnCluster(word) => matches!(word, OnCluster::Queues | OnCluster::Regions),
+        Head::OnCluster(word) => matches!(
+            word,
+            OnCluster::SyncAll | OnCluster::Queues | OnCluster::Regions
+        ),
         Head::OnPeer(_) => false,
         Head::OnServer(word) => !matches!(
             word,
-            OnServer::Roll
-                | OnServer::Crash
-                | OnServer::Seal
-                | OnServer::Sweep
-                | OnServer::SweepRemote
-                | OnServer::Mirror
+            OnServer::Sweep | OnServer::SweepRemote | OnServer::Mirror
         ),
-        Head::OnRegion(word) => !matches!(
-            word,
-            OnRegion::CloseBegin
-                | OnRegion::CloseEnd
-                | OnRegion::Recover
-                | OnRegion::Flush
-                | OnRegion::Compact
-                | OnRegion::Close
-        ),
-        Head::OnPlace(word) => !matches!(word, OnPlace::Move),
+        Head::OnRegion(word) => !matches!(word, OnRegion::Flush | OnRegion::Compact),
         Head::OnFlight(word) => !matches!(word, OnFlight::Lose),
         Head::Alone(word) => !matches!(word, Alone::Drain),
-        Head::Get | Head::Split | Head::Merge | Head::Claim => false,
-        Head::TransitBegin | Head::Fail | Head::Keep => false,
+        Head::Split | Head::Merge | Head::Claim | Head::TransitBegin => false,
         _ => true,
+    }
+}
+
+/// Whether the program adds peers of the kind today: the words of the other kinds are unknown to it.
+pub fn is_performed_kind(kind: Kind) -> bool
+    ensures { result ≡ is_performed_kind kind }
+{
+    match kind {
+        Kind::Plain => true,
+        Kind::Serial | Kind::Synchronous => false,
     }
 }
 

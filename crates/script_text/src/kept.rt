@@ -2,14 +2,15 @@
 #![tactic(auto, unfolding(crate::specs::Meanings::show, crate::specs::Meanings::get, crate::specs::Meanings::split, crate::specs::Meanings::table, crate::specs::Meanings::peer))]
 
 ghost use Rattle.std.specs.Prelude.{◌≡◌, IfOk};
-ghost use Rattle.script_text.specs.Meanings.{show, get, split, table, peer};
+ghost use Rattle.script_text.specs.Meanings.{show, get, split, table, performed_kind, peer};
 ghost use Rattle.script_text.specs.Words.{words_of};
 
 use crate::forms::{key_word, kind_word, name_word, peer_word, region_word};
+use crate::head::is_performed_kind;
 use crate::lists::{specs_word, tables_word};
 use crate::read::{cluster_and_one, cluster_and_three, cluster_and_two};
 use crate::{Command, Rule};
-use rep_types::{Event, Memory};
+use rep_types::{Event, Kind, Memory};
 use std::alloc::Global;
 
 pub fn show(alloc: Global, text: &[u8]) -> Result<Result<Command, Rule>, Memory>
@@ -88,6 +89,19 @@ pub fn table(alloc: Global, text: &[u8]) -> Result<Result<Command, Rule>, Memory
     }
 }
 
+// The kind that a word is, if the program adds peers of it.
+#[tactic(auto, unfolding(crate::specs::Meanings::performed_kind))]
+fn performed_kind(word: &[u8]) -> Result<Kind, Rule>
+    ensures { result ≡ performed_kind word.now }
+{
+    let kind = kind_word(word)?;
+    if is_performed_kind(kind) {
+        Ok(kind)
+    } else {
+        Err(Rule::Words)
+    }
+}
+
 pub fn peer(alloc: Global, text: &[u8]) -> Result<Result<Command, Rule>, Memory>
     ensures { IfOk result (λ made. made ≡ peer (words_of text.now)) }
 {
@@ -99,7 +113,7 @@ pub fn peer(alloc: Global, text: &[u8]) -> Result<Result<Command, Rule>, Memory>
         Ok(peer) => peer,
         Err(rule) => return Ok(Err(rule)),
     };
-    let kind = match kind_word(kind) {
+    let kind = match performed_kind(kind) {
         Ok(kind) => kind,
         Err(rule) => return Ok(Err(rule)),
     };

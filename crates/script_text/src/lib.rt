@@ -22,6 +22,7 @@ mod tests;
 mod words;
 
 pub use command::{Command, Commands, Input};
+pub use expand::sync_all_event;
 pub use generator::generate;
 pub use parser::{ParseError, parse};
 use rule::Rule;

@@ -24,7 +24,7 @@ fn fault_of(alloc: Global, input: Input, text: &[u8]) -> u32 {
     }
 }
 
-static FAULTS: [(&[u8], u32); 62] = [
+static FAULTS: [(&[u8], u32); 66] = [
     (b"", 0),
     (b"\n\n", 0),
     (b"server a 1\n\n# a comment\n   # another", 0),
@@ -40,7 +40,12 @@ static FAULTS: [(&[u8], u32); 62] = [
     (b"server c\n", 102),
     (b"put a t r\n", 102),
     (b"--\n", 102),
-    (b"roll a 1\n", 102),
+    (b"sweep a 1\n", 102),
+    (
+        b"syncall a\nroll a 1\ncrash a 1\nseal a 1\nclosebegin a 1\ncloseend a 1\nrecover a 1\nclose a 1\nmove a 1 2\n\
+get a t r\nfail a append 3\nkeep a 0\nflush a 1\n",
+        1302,
+    ),
     (b"queues a\nregions b\nstatus\ndrain\n", 402),
     (b"queues c\n", 103),
     (b"server c 1\n", 103),
@@ -73,6 +78,9 @@ static FAULTS: [(&[u8], u32); 62] = [
     (b"peer a 1 plain T\n", 106),
     (b"peer a 1 Plain t,\n", 107),
     (b"peer a 9 Plain t,\n", 104),
+    (b"peer a 1 plain t\npeer a 1 serial t\n", 202),
+    (b"peer a 1 sync t,\n", 102),
+    (b"peer a 9 serial t\n", 104),
     (b"put a t r f:q@10\n", 106),
     (
         b"put a t r f:q@18446744073709551615=v\nput a t r f:q@18446744073709551616=v\n",
@@ -107,7 +115,7 @@ fn the_first_rule_of_the_first_line_is_told(rt: HostRuntime) -> Result<(), Fail>
     Ok(())
 }
 
-static LIVE_FAULTS: [(&[u8], u32); 12] = [
+static LIVE_FAULTS: [(&[u8], u32); 15] = [
     (b"", 109),
     (b"server a 1\n", 209),
     (b"server a 1", 209),
@@ -120,6 +128,9 @@ static LIVE_FAULTS: [(&[u8], u32); 12] = [
     (b"show a t\n--\nshow a t\n", 310),
     (b"--\nshow a T\n", 210),
     (b"--\nshow a\n", 202),
+    (b"get a t r\n--\nget a t r\n", 310),
+    (b"fail a append 3\n--\nfail a append 3\n", 310),
+    (b"keep a 0\n--\nkeep a 0\n", 310),
 ];
 
 #[test]
@@ -146,7 +157,7 @@ fn rule_of(alloc: Global, line: &[u8]) -> u16 {
     }
 }
 
-static COMMANDS: [&[u8]; 54] = [
+static COMMANDS: [&[u8]; 52] = [
     b"server a 1",
     b"table a t f/1,g/0",
     b"openbegin a 1 1",
@@ -168,8 +179,6 @@ static COMMANDS: [&[u8]; 54] = [
     b"sweep a 1",
     b"sweepremote a 1",
     b"peer a 1 plain t",
-    b"peer a 2 serial t,u",
-    b"peer b 1 sync t",
     b"enable a 1",
     b"disable a 1",
     b"remove a 1",
@@ -203,8 +212,10 @@ static COMMANDS: [&[u8]; 54] = [
     b"keep a 0",
 ];
 
-static BROKEN: [(&[u8], u16); 17] = [
+static BROKEN: [(&[u8], u16); 19] = [
     (b"makeserial a 1", 2),
+    (b"peer a 2 serial t,u", 2),
+    (b"peer b 1 sync t", 2),
     (b"drain a", 2),
     (b"close a 1 1", 2),
     (b"lose", 2),
