@@ -1,16 +1,16 @@
 -- Nothing in memory and a store as new stand for the opening.
-use Rattle.std.proofs.Common.{ℕ, ◌≡◌, ◌≤◌, inl, true, false, [], length, refl, sym, subst, arith}
+use Rattle.std.proofs.Common.{◌≡◌, ◌≤◌, inl, true, false, [], length, refl, sym, subst, arith}
 use Rattle.rep_types.specs.declared.ids.Cluster.{Cluster}
 use Rattle.rep_types.specs.declared.ids.Cluster.TheVariants.{A, B, C}
 use Rattle.rep_vault.specs.Contents.{Contents, new_contents}
 use Rattle.rep_vault.specs.Tallies.{Tally}
-use Rattle.rep_model.specs.State.{opening, empty_side}
+use Rattle.rep_model.specs.State.{empty_side}
 use Rattle.rep_model.specs.Words.{is_paired}
-use Rattle.rep_model.specs.Runs.{state_of, faults_of, no_faults, Counts}
+use Rattle.rep_model.specs.Runs.{no_faults, Counts}
 use Rattle.rep_model.specs.declared.machine.Machine.{Machine}
 use Rattle.rep_model.proofs.Runs.{legal-new, state-new, faults-new}
 use Rattle.cluster_core.specs.Texts.{RecordKey, OfTable, OfRegion, OfBarriers, OfServer, OfPeer}
-use Rattle.cluster_core.specs.Stands.{Stands, RecordAt, empty_core, number_of}
+use Rattle.cluster_core.specs.Stands.{Stands, RecordAt, empty_core}
 use Rattle.pair_core.specs.Sides.{AllStand, Covers, empty_sides}
 use Rattle.pair_core.specs.Pair.{IsPair, both}
 

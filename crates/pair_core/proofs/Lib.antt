@@ -2,3 +2,4 @@ mod Beginning
 mod Seen
 mod Steps
 mod Storing
+mod Viewed

@@ -1,22 +1,16 @@
 -- One cluster's event, seen from both.
-use Rattle.std.proofs.Common.{ℕ, ◌+◌, ◌-◌, ◌^◌, ◌<◌, ◌≤◌, ◌≡◌, Result, Err, min, arith, false, true, Option, Some, None, List, map, length, refl, sym, ap, ◌∙◌, subst}
-use Rattle.std.proofs.lemmas.Bool.{false≢true, and_parts, leb-true}
+use Rattle.std.proofs.Common.{ℕ, ◌+◌, ◌-◌, ◌^◌, ◌<◌, ◌≤◌, ◌≡◌, Err, min, arith, true, Option, Some, None, List, map, length, refl, sym, ap, ◌∙◌, subst}
+use Rattle.std.proofs.lemmas.Bool.{false≢true, and_parts}
 use Rattle.std.specs.Prelude.{IfSome}
 use Rattle.std.specs.Option.{option_map}
 use Rattle.rep_types.specs.declared.ids.Cluster.{Cluster}
 use Rattle.rep_types.specs.declared.ids.Cluster.TheVariants.{A, B, C}
 use Rattle.rep_types.specs.declared.event.Event.{Event}
 use Rattle.rep_types.specs.declared.event.Event.TheVariants as event
-use Rattle.rep_types.specs.declared.state.Call.{Call}
-use Rattle.rep_types.specs.declared.reply.Cause.{Cause}
-use Rattle.rep_types.specs.declared.reply.Cause.TheVariants as cause
 use Rattle.rep_types.specs.declared.reply.Reply.{Reply}
 use Rattle.rep_types.specs.declared.reply.Reply.TheVariants as reply
 use Rattle.region_meta.specs.Regions.{Map}
 use Rattle.rep_vault.specs.Contents.{Contents}
-use Rattle.rep_vault.specs.Tallies.{Tally}
-use Rattle.rep_model.specs.Row.{Row}
-use Rattle.rep_model.specs.Calm.{is_calm}
 use Rattle.rep_model.specs.Keyed.{given}
 use Rattle.rep_model.specs.State.{other, flight_of, is_flight}
 use Rattle.rep_model.specs.Words.{is_paired, is_worded}
@@ -33,14 +27,14 @@ use Rattle.cluster_core.specs.declared.parts.ClusterCore.{ClusterCore}
 use Rattle.cluster_core.specs.declared.parts.CoreError.{CoreError}
 use Rattle.cluster_core.specs.declared.parts.CoreError.TheVariants as failed
 use Rattle.cluster_core.specs.Stands.{Stands}
-use Rattle.cluster_core.specs.Does.{Reached, Flies, FliesOr, Does, IsTold, CauseTold, FaultTold, sent_of}
+use Rattle.cluster_core.specs.Does.{Reached, Flies, FliesOr, sent_of}
 use Rattle.arrival_events.specs.Delivering.{IsFor, IsSink}
 use Rattle.queue_events.specs.Flights.{IsFrom}
 use Rattle.queue_events.proofs.Confirmed.{sent_is}
 use Rattle.pair_core.specs.declared.sides.Sides.{Sides}
 use Rattle.pair_core.specs.Served.{source_of, cluster_of}
-use Rattle.pair_core.specs.Sides.{Both, of, AllStand, Standing, IsHere}
-use Rattle.pair_core.specs.Performs.{Done, Performs, Rose, FaultRose}
+use Rattle.pair_core.specs.Sides.{Both, AllStand, Standing, IsHere}
+use Rattle.pair_core.specs.Performs.{Done, Performs}
 
 more_tickets : (e : Event) (said : Reply) (m : Machine) (tickets now : ℕ) → tickets ≡ length m.tickets → now ≡ tickets + accepted said → said ≡ (row e said m).reply → now ≡ length (row e said m).state.tickets
 more_tickets e said m tickets now t n is =
@@ -119,11 +113,15 @@ served_is_paired (event.Table c t ts) flights w fs = (and_parts _ _ w).0
 served_is_paired (event.OpenBegin c r s) flights w fs = w
 served_is_paired (event.OpenEnd c r) flights w fs = w
 served_is_paired (event.CloseBegin c r) flights w fs = w
+served_is_paired (event.CloseEnd c r) flights w fs = w
 served_is_paired (event.Put c t k cells) flights w fs = (and_parts _ _ w).0
 served_is_paired (event.Get c t k) flights w fs = w
 served_is_paired (event.Show c t) flights w fs = w
 served_is_paired (event.Sync c s) flights w fs = w
 served_is_paired (event.Roll c s) flights w fs = w
+served_is_paired (event.Crash c s) flights w fs = w
+served_is_paired (event.Seal c s) flights w fs = w
+served_is_paired (event.Recover c r) flights w fs = w
 served_is_paired (event.Peer c p k ts) flights w fs = (and_parts _ _ w).0
 served_is_paired (event.Send c p s n) flights w fs = (and_parts _ _ w).0
 served_is_paired (event.Deliver f) flights w fs = other_is_paired (source_of f flights) (fs f)
@@ -132,10 +130,6 @@ served_is_paired _ flights w fs = refl
 
 pub never_c : (e : Event) (stores : Both Contents) (sides : Sides) → is_worded e ≡ true → Standing stores sides → C ≡ cluster_of sides.flights e → ⊥
 never_c e stores sides worded s is = false≢true (ap is_paired is ∙ served_is_paired e sides.flights worded (source_is_paired s.0 s.1 sides.flights s.2.flights))
-
--- a batch has at least one entry
-pub some_sent : (c : Cluster) (p s n : ℕ) → is_worded (event.Send c p s n) ≡ true → 1 ≤ n
-some_sent c p s n w = leb-true 1 n (and_parts _ _ (and_parts (is_paired c) _ w).1).0
 
 -- ---- what a cluster knows
 
@@ -150,7 +144,7 @@ here_b c d sides m reached all = subst (λ (own : Cluster). IsHere own c sides.b
 few_tickets : (tickets n : ℕ) → tickets < 2 ^ 32 - 1 → n ≤ 1 → min (tickets + n) 4294967295 ≡ tickets + n
 few_tickets tickets n small one = omega arith
 
-at_most_one : (said : Reply) → accepted said ≤ 1
+pub at_most_one : (said : Reply) → accepted said ≤ 1
 at_most_one (reply.Accepted region seq ticket) = omega arith
 at_most_one _ = omega arith
 

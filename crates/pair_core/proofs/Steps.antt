@@ -1,5 +1,5 @@
 -- A pair goes on by one step.
-use Rattle.std.proofs.Common.{ℕ, ◌+◌, ◌≤◌, ◌<◌, ◌≡◌, true, false, Bool, List, [], ◌∷◌, ◌++◌, length, refl, sym, ap, ◌∙◌, subst, arith, length-append, Err}
+use Rattle.std.proofs.Common.{ℕ, ◌+◌, ◌≤◌, ◌<◌, ◌≡◌, true, false, Bool, List, [], ◌∷◌, ◌++◌, length, refl, sym, ◌∙◌, subst, arith, length-append, Err}
 use Rattle.std.proofs.lemmas.Bool.{true≢false}
 use Rattle.rep_types.specs.declared.ids.Cluster.{Cluster}
 use Rattle.rep_types.specs.declared.ids.Cluster.TheVariants.{A, B, C}
@@ -14,9 +14,8 @@ use Rattle.rep_types.specs.declared.record.Record.{Record}
 use Rattle.rep_vault.specs.Contents.{Contents}
 use Rattle.rep_vault.specs.Tallies.{Tally, total}
 use Rattle.rep_model.specs.declared.machine.Machine.{Machine}
-use Rattle.rep_model.specs.Row.{Row}
 use Rattle.rep_model.specs.Rows.{row}
-use Rattle.rep_model.specs.Runs.{IsLegal, IsNext, Counts, count, counts_of, Tells, after, state_of, faults_of}
+use Rattle.rep_model.specs.Runs.{IsLegal, Counts, count, counts_of, Tells, after, state_of, faults_of}
 use Rattle.rep_model.specs.Words.{is_worded}
 use Rattle.rep_model.proofs.Runs.{legal-push, state-push, faults-push}
 use Rattle.rep_laws.specs.Growing.{accepted, Grows}
@@ -28,6 +27,7 @@ use Rattle.pair_core.specs.declared.sides.Sides.{Sides}
 use Rattle.pair_core.specs.Sides.{Both, of, AllStand, Covers}
 use Rattle.pair_core.specs.Performs.{Done, Performs, changed_of, Rose, FaultRose}
 use Rattle.pair_core.specs.Pair.{IsPair, both}
+use Rattle.pair_core.proofs.Seen.{at_most_one}
 
 -- ---- counts
 
@@ -77,10 +77,6 @@ reached_now journal legal = (journal, legal, refl)
 
 fewer : (a b c d n : ℕ) → a ≤ b → c ≡ a + n → n ≤ 1 → d ≡ b + 1 → c ≤ d
 fewer a b c d n h e g i = omega arith
-
-at_most_one : (said : Reply) → accepted said ≤ 1
-at_most_one (reply.Accepted region seq ticket) = omega arith
-at_most_one _ = omega arith
 
 cause_told : (why : Cause) (told : Counts) (e : Event) (said : Reply) (actor : ℕ) (old new : Both Tally) → Covers told A old.a → Covers told B old.b → FaultRose (reply.Stopped 0 [] why) old new → Tells (reply.Stopped 0 [] why) told (counts_of (made e said new actor))
 cause_told (cause.StoreFault store kind n) told e said actor old new a b rose = rose_told store told e said actor old new kind n a b rose

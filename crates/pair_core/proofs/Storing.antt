@@ -1,10 +1,13 @@
 -- Where memory and a store stand for a state, the store holds what it is to hold.
-use Rattle.std.proofs.Common.{ℕ, ◌≡◌, Bool, false, List, find, Option, Some, None, sym, subst}
+use Rattle.std.proofs.Common.{ℕ, ◌≡◌, Bool, true, false, List, find, Option, Some, None, sym, subst}
 use Rattle.rep_types.specs.declared.ids.Cluster.TheVariants.{A, B}
 use Rattle.rep_types.specs.declared.record.Record.{Record}
 use Rattle.rep_vault.specs.Tallies.{Tally}
 use Rattle.rep_model.specs.Keyed.{if_some}
 use Rattle.rep_model.specs.Runs.{state_of}
+use Rattle.rep_model.specs.Words.{is_paired}
+use Rattle.rep_laws.specs.Settled.{IsSettled}
+use Rattle.rep_laws.proofs.Settling.{settled_state}
 use Rattle.cluster_core.specs.Lines.{lives}
 use Rattle.cluster_core.proofs.QueueLookups.{lives_is}
 use Rattle.pair_core.specs.Pair.{PairValue, IsPair, both}
@@ -43,6 +46,11 @@ pub stored_now : {V : Type 0} (contents : V → Contents) (tally : V → Tally) 
     → IsPair contents tally journal spent sides a b → p.spent ≡ false → Stored (both contents p.a p.b) (state_of p.journal)
 stored_now contents tally p journal spent sides a b is pair =
     subst (λ (q : PairValue _). q.spent ≡ false → Stored (both contents q.a q.b) (state_of q.journal)) (sym is) (λ e. all_stored (both contents a b) sides (state_of journal) (pair.stand e))
+
+pub settled_now : {V : Type 0} (contents : V → Contents) (tally : V → Tally) (p : PairValue V) (journal : List Record) (spent : Bool) (sides : Sides) (a b : V) → p ≡ record { journal = journal; spent = spent; a = a; b = b }
+    → IsPair contents tally journal spent sides a b → (c : Cluster) → is_paired c ≡ true → IsSettled c (state_of p.journal)
+settled_now contents tally p journal spent sides a b is pair c paired =
+    subst (λ (q : PairValue _). IsSettled c (state_of q.journal)) (sym is) (settled_state c journal paired pair.legal)
 
 pub live_in_a : {V : Type 0} (contents : V → Contents) (tally : V → Tally) (p : PairValue V) (journal : List Record) (spent : Bool) (sides : Sides) (a b : V) (s : ℕ) → p ≡ record { journal = journal; spent = spent; a = a; b = b }
     → IsPair contents tally journal spent sides a b → p.spent ≡ false → lives s sides.a.stations ≡ if_some (server_of A s (state_of p.journal)) (λ (srv : Server). srv.live)

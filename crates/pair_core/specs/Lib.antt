@@ -3,3 +3,4 @@ pub mod Performs
 pub mod Served
 pub mod Sides
 pub mod Stored
+pub mod Views

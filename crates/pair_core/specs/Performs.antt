@@ -1,6 +1,5 @@
 -- What an event does to both clusters.
-use Rattle.std.specs.Prelude.{ℕ, ◌<◌, ◌≤◌, ◌≡◌, Bool, false, Result, Ok, Err}
-use Rattle.rep_types.specs.declared.ids.Cluster.{Cluster}
+use Rattle.std.specs.Prelude.{ℕ, ◌<◌, ◌≡◌, Bool, false, Result, Ok, Err}
 use Rattle.rep_types.specs.declared.state.Call.{Call}
 use Rattle.rep_types.specs.declared.event.Event.{Event}
 use Rattle.rep_types.specs.declared.reply.Cause.{Cause}
@@ -14,7 +13,6 @@ use Rattle.rep_model.specs.Rows.{row}
 use Rattle.rep_model.specs.declared.machine.Machine.{Machine}
 use Rattle.cluster_core.specs.declared.parts.CoreError.{CoreError}
 use Rattle.cluster_core.specs.declared.parts.CoreError.TheVariants as failed
-use Rattle.cluster_core.specs.Does.{Counts}
 use Rattle.pair_core.specs.declared.sides.Sides.{Sides}
 use Rattle.pair_core.specs.Sides.{Both, of, AllStand}
 

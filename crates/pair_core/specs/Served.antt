@@ -1,7 +1,7 @@
 -- Which events a pair performs today, and in which cluster each is performed.
-use Rattle.std.specs.Prelude.{ℕ, ◌≡◌, Bool, true, false, List, IfSome}
+use Rattle.std.specs.Prelude.{ℕ, Bool, true, false, List}
 use Rattle.rep_types.specs.declared.ids.Cluster.{Cluster}
-use Rattle.rep_types.specs.declared.ids.Cluster.TheVariants.{A, B, C}
+use Rattle.rep_types.specs.declared.ids.Cluster.TheVariants.{A}
 use Rattle.rep_types.specs.declared.event.Event.{Event}
 use Rattle.rep_types.specs.declared.event.Event.TheVariants as event
 use Rattle.rep_types.specs.declared.state.Kind.{Kind}
@@ -23,11 +23,15 @@ is_served (event.Table c t fs) = true
 is_served (event.OpenBegin c r s) = true
 is_served (event.OpenEnd c r) = true
 is_served (event.CloseBegin c r) = true
+is_served (event.CloseEnd c r) = true
 is_served (event.Put c t k cells) = true
 is_served (event.Get c t k) = true
 is_served (event.Show c t) = true
 is_served (event.Sync c s) = true
 is_served (event.Roll c s) = true
+is_served (event.Crash c s) = true
+is_served (event.Seal c s) = true
+is_served (event.Recover c r) = true
 is_served (event.Peer c p k ts) = is_plain k
 is_served (event.Send c p s n) = true
 is_served (event.Deliver f) = true
@@ -45,11 +49,15 @@ cluster_of flights (event.Table c t fs) = c
 cluster_of flights (event.OpenBegin c r s) = c
 cluster_of flights (event.OpenEnd c r) = c
 cluster_of flights (event.CloseBegin c r) = c
+cluster_of flights (event.CloseEnd c r) = c
 cluster_of flights (event.Put c t k cells) = c
 cluster_of flights (event.Get c t k) = c
 cluster_of flights (event.Show c t) = c
 cluster_of flights (event.Sync c s) = c
 cluster_of flights (event.Roll c s) = c
+cluster_of flights (event.Crash c s) = c
+cluster_of flights (event.Seal c s) = c
+cluster_of flights (event.Recover c r) = c
 cluster_of flights (event.Peer c p k ts) = c
 cluster_of flights (event.Send c p s n) = c
 cluster_of flights (event.Deliver f) = other (source_of f flights)

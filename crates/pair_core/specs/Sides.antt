@@ -29,6 +29,11 @@ of A both = both.a
 of B both = both.b
 of C both = both.a
 
+abbrev pub core_of : Cluster → Sides → ClusterCore
+core_of A sides = sides.a
+core_of B sides = sides.b
+core_of C sides = sides.a
+
 -- each cluster in memory and its store stand for its side, the flights in memory are the machine's, and so many tickets were given
 pub record AllStand (stores : Both Contents) (sides : Sides) (m : Machine) : Type 0 where
   pub a : Stands A stores.a sides.a m.a

@@ -4,6 +4,7 @@
 mod pair;
 mod performing;
 mod sides;
+mod views;
 
 pub use pair::{NoPair, Pair, StepError, Stores};
 pub use sides::Sides;

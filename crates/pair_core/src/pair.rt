@@ -6,6 +6,7 @@ ghost use Rattle.rep_model.specs.Keyed.{if_some};
 ghost use Rattle.rep_model.specs.State.{server_of};
 ghost use Rattle.rep_model.specs.Words.{is_paired, is_worded};
 ghost use Rattle.rep_model.specs.Runs.{IsLegal, state_of};
+ghost use Rattle.rep_laws.specs.Settled.{IsSettled};
 ghost use Rattle.cluster_core.specs.Does.{Counts};
 ghost use Rattle.pair_core.specs.Pair.{both, IsSame, IsPlanned};
 ghost use Rattle.pair_core.specs.Performs.{changed_of, FaultRose};
@@ -60,8 +61,8 @@ pub struct Stores<V: Vault> {
 /// Two clusters, each over its store, and their journal.
 #[derive(Drop)]
 pub struct Pair<V: Vault> {
-    sides: Sides,
-    journal: Vec<Record>,
+    pub(crate) sides: Sides,
+    pub(crate) journal: Vec<Record>,
     spent: bool,
     a: V,
     b: V,
@@ -100,6 +101,8 @@ impl<V: Vault> Pair<V> {
     pub fn journal(&self) -> &[Record]
         ensures value { result.now ≡ self.now.journal }
         ensures legal { IsLegal self.now.journal }
+        // Each cluster hangs together after it.
+        ensures settled { (c : Cluster) → is_paired c ≡ true → IsSettled c (state_of self.now.journal) }
         // Unless the pair is spent, the stores hold what the state after the journal has in logs and records.
         ensures stored { self.now.spent ≡ false → Stored (both V.contents self.now.a self.now.b) (state_of self.now.journal) }
     {
@@ -122,6 +125,9 @@ impl<V: Vault> Pair<V> {
         ensures err { OnErr result (self.new.journal ≡ self.old.journal) }
         ensures unchanged { OnErr result (self.new.spent ≡ false → both V.contents self.new.a self.new.b ≡ both V.contents self.old.a self.old.b) }
         ensures spent { IsErrOf result StepError.Spent ↔ (self.old.spent ≡ true) }
+        // A pair becomes spent only where memory runs out, and stays so.
+        ensures becomes { self.old.spent ≡ false → self.new.spent ≡ true → IsErrOf result StepError.Memory }
+        ensures stays { self.old.spent ≡ true → self.new.spent ≡ true }
         ensures full { IsErrOf result StepError.Full ↔ (self.old.spent ≡ false) × (2 ^ 32 - 1 ≤ length self.old.journal) }
     {
         if self.spent {
@@ -206,9 +212,11 @@ impl<V: Vault> Pair<V> {
         }
     }
 
-    /// Hands both stores back.
+    /// Hands both stores back, which hold what the state after the journal has in logs and records, unless the pair is spent.
     pub fn into_stores(self) -> Stores<V>
-        ensures { result ≡ record { a = self.a; b = self.b } }
+        ensures value { result ≡ record { a = self.a; b = self.b } }
+        ensures legal { IsLegal self.journal }
+        ensures stored { self.spent ≡ false → Stored (both V.contents self.a self.b) (state_of self.journal) }
     {
         Stores {
             a: self.a,

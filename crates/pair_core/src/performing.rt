@@ -18,17 +18,18 @@ ghost use Rattle.pair_core.specs.Performs.{Performs, FaultRose};
 use crate::sides::{Sides, accepted, cluster_of};
 use arrival_events::deliver;
 use cluster_core::{ClusterCore, CoreError, Sent};
-use log_events::{roll, sync};
+use log_events::{roll, seal, sync};
 use peer_events::peer;
 use queue_events::{confirm, send};
 use read_events::{get, show};
-use region_events::{close_begin, open_begin, open_end, table};
+use recovery_events::recover;
+use region_events::{close_begin, close_end, open_begin, open_end, table};
 use region_meta::RegionMap;
 use rep_types::{
     Cells, Cluster, Duplicate, Event, Families, Items, Key, Kind, Name, Names, PeerId, Reply,
 };
 use rep_vault::Vault;
-use server_events::server;
+use server_events::{crash, server};
 use std::alloc::Global;
 use write_events::put;
 
@@ -129,6 +130,7 @@ fn on_side<V: Vault>(
         Event::OpenBegin { region, server, .. } => open_begin(core, alloc, own, *region, *server),
         Event::OpenEnd { region, .. } => open_end(core, alloc, own, *region),
         Event::CloseBegin { region, .. } => close_begin(core, *region),
+        Event::CloseEnd { region, .. } => close_end(core, alloc, own, *region),
         Event::Put {
             table,
             row,
@@ -139,6 +141,9 @@ fn on_side<V: Vault>(
         Event::Show { table, .. } => show(alloc, core, table),
         Event::Sync { server, .. } => sync(core, alloc, own, *server),
         Event::Roll { server, .. } => roll(core, alloc, own, *server),
+        Event::Crash { server, .. } => crash(core, *server),
+        Event::Seal { server, .. } => seal(core, alloc, own, *server),
+        Event::Recover { region, .. } => recover(core, alloc, own, *region),
         Event::Peer {
             peer,
             kind: Kind::Plain,

@@ -235,6 +235,14 @@ fn reads(alloc: Global, pair: &mut Pair<MemVault>) -> Result<(), Fail> {
     steps(alloc, pair, Event::Show { cluster, table })
 }
 
+// Whether nothing is left in the peer's queue.
+fn is_sent(pair: &Pair<MemVault>) -> Result<bool, Fail> {
+    match pair.queue_view(Cluster::A, peer()?, server()?) {
+        Some(view) => Ok(view.left == 0),
+        None => Ok(false),
+    }
+}
+
 fn first_path(alloc: Global, pair: &mut Pair<MemVault>) -> Result<bool, Fail> {
     open_all(alloc, pair)?;
     put(alloc, pair)?;
@@ -243,7 +251,8 @@ fn first_path(alloc: Global, pair: &mut Pair<MemVault>) -> Result<bool, Fail> {
     reads(alloc, pair)?;
     pair.plan_keep(Cluster::A, 1)?;
     let lives = pair.is_live(Cluster::A, server()?);
-    Ok(lives && prints(alloc, pair, OPENED, SHIPPED)?)
+    let sent = is_sent(pair)?;
+    Ok(lives && sent && prints(alloc, pair, OPENED, SHIPPED)?)
 }
 
 fn broken_log(alloc: Global, pair: &mut Pair<MemVault>) -> Result<bool, Fail> {

@@ -1,8 +1,4 @@
-use Rattle.std.proofs.Common.{◌∙◌, sym, ap, subst, ◌≡◌, false}
-use Rattle.rep_types.specs.declared.ids.Cluster.{Cluster}
-use Rattle.rep_model.specs.Keyed.{if_some}
-use Rattle.rep_model.specs.State.{server_of}
-use Rattle.rep_model.specs.Runs.{state_of}
+use Rattle.std.proofs.Common.{◌∙◌, sym}
 use Rattle.pair_core.proofs.Storing.{live_in_a, live_in_b}
 use Rattle.pair_core.proofs.pair.Pair.is_live.Goals as goal
 

@@ -1,0 +1,67 @@
+// What is seen of a pair, without a store call.
+ghost use Rattle.std.specs.Prelude.{◌≡◌, false, true, length, IfOk};
+ghost use Rattle.rep_model.specs.State.{of};
+ghost use Rattle.rep_model.specs.Words.{is_paired};
+ghost use Rattle.rep_model.specs.Runs.{state_of};
+ghost use Rattle.core_views.specs.Views.{queue_seen, region_seen};
+ghost use Rattle.pair_core.specs.Sides.{core_of};
+ghost use Rattle.pair_core.specs.Views.{status_seen};
+
+use crate::pair::Pair;
+use crate::sides::Sides;
+use cluster_core::ClusterCore;
+use core_views::{queue_view, region_line, side_line};
+use rep_types::{Cluster, Memory, PeerId, QueueView, RegionId, RegionLine, ServerId, StatusLine};
+use rep_vault::Vault;
+use std::alloc::Global;
+
+// A cluster in memory.
+fn core_of(sides: &Sides, cluster: Cluster) -> &ClusterCore
+    requires { is_paired cluster ≡ true }
+    ensures { result.now ≡ core_of cluster sides.now }
+{
+    match cluster {
+        Cluster::A => &sides.a,
+        Cluster::B => &sides.b,
+        Cluster::C => unreachable!(),
+    }
+}
+
+impl<V: Vault> Pair<V> {
+    /// A peer's queue for the logs of a server: its owner, how many commits are left in it, and its
+    /// outstanding flight. None where the peer wasn't added or is removed, or has no such queue. It
+    /// costs the search for them.
+    pub fn queue_view(&self, cluster: Cluster, peer: PeerId, server: ServerId) -> Option<QueueView>
+        requires paired { is_paired cluster ≡ true }
+        ensures seen { self.now.spent ≡ false → result ≡ queue_seen peer server (of cluster (state_of self.now.journal)) }
+    {
+        queue_view(core_of(&self.sides, cluster), peer, server)
+    }
+
+    /// A region as it is printed, with its barriers; a final one where it is Gone. None where there is
+    /// no region of this number. It costs its barriers, its bounds and its table's name.
+    pub fn region_line(
+        &self,
+        alloc: Global,
+        cluster: Cluster,
+        region: RegionId,
+    ) -> Result<Option<RegionLine>, Memory>
+        requires paired { is_paired cluster ≡ true }
+        ensures seen { self.now.spent ≡ false → IfOk result (λ line. line ≡ region_seen cluster region (of cluster (state_of self.now.journal))) }
+    {
+        region_line(core_of(&self.sides, cluster), alloc, region)
+    }
+
+    /// Both clusters, the number of flights, and how many records there are. It costs a search for
+    /// each of 64 servers in both.
+    pub fn status_line(&self, alloc: Global) -> Result<StatusLine, Memory>
+        ensures seen { self.now.spent ≡ false → IfOk result (λ line. line ≡ status_seen (length self.now.journal) (state_of self.now.journal)) }
+    {
+        Ok(StatusLine {
+            a: side_line(&self.sides.a, alloc)?,
+            b: side_line(&self.sides.b, alloc)?,
+            flights: self.sides.flights.len() as u64,
+            records: self.journal.len() as u64,
+        })
+    }
+}
