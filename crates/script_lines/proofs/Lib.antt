@@ -1,3 +1,3 @@
-pub mod Counting
 pub mod Numbers
+pub mod Shown
 pub mod Whole

@@ -1,7 +1,8 @@
 -- The lines of a script go on by those of one command.
-use Rattle.std.proofs.Common.{◌≡◌, ℕ, ◌+◌, false, List, [], ◌∷◌, ◌++◌, Option, Some, None, length, drop, cond, refl, sym, ap, ◌∙◌, subst, append_assoc, add-zero, zero-add, add_assoc, length-append}
+use Rattle.std.proofs.Common.{◌≡◌, ℕ, ◌+◌, Bool, true, false, List, [], ◌∷◌, ◌++◌, Option, Some, None, length, drop, cond, refl, sym, ap, ◌∙◌, subst, append_assoc, add-zero, zero-add, add_assoc, length-append}
 use Rattle.std.specs.Prelude.{codes, is_some}
 use Rattle.std.proofs.Math.Seq.{drop-append_seam}
+use Rattle.std.proofs.lemmas.Bool.{true≢false}
 use Rattle.std.proofs.lemmas.List.{append-nil}
 use Rattle.rep_types.specs.declared.event.Event.{Event}
 use Rattle.rep_types.specs.declared.record.Record.{Record}
@@ -14,7 +15,6 @@ use Rattle.script_text.specs.declared.command.Command.{Command}
 use Rattle.script_text.specs.declared.command.Command.TheVariants as command
 use Rattle.script_text.specs.Drains.{numbers, drain_end}
 use Rattle.script_text.specs.Due.{due, Does, ExpandsFrom}
-use Rattle.script_text.specs.Expansion.{asks_state}
 use Rattle.script_lines.specs.Lines.{own_of, end_text, command_text, lines_after, lines}
 use Rattle.script_lines.specs.Views.{view_text}
 
@@ -102,12 +102,16 @@ unfolding lines state_of
 lines-more cs records c own e d =
     lines-push 0 opening cs records c own e d ∙ ap (λ (n : ℕ). lines_after 0 opening cs records ++ command_text c n (state_from opening records) own) (zero-add (length records))
 
--- a command that doesn't ask for the state is no drain
-end-none : (c : Command) (m : Machine) (own : List Record) → asks_state c ≡ false → end_text c m own ≡ []
-end-none command.Drain m own h = absurd (cc h)
+abbrev pub is_drain : Command → Bool
+is_drain command.Drain = true
+is_drain _ = false
+
+-- a command that is no drain has no last line
+end-none : (c : Command) (m : Machine) (own : List Record) → is_drain c ≡ false → end_text c m own ≡ []
+end-none command.Drain m own h = absurd (true≢false h)
 end-none _ m own h = refl
 
-pub command_text-plain : (c : Command) (before : ℕ) (m : Machine) (own : List Record) → asks_state c ≡ false → lines_from (before + 1) own ++ view_text c (before + length own) (state_from m own) ≡ command_text c before m own
+pub command_text-plain : (c : Command) (before : ℕ) (m : Machine) (own : List Record) → is_drain c ≡ false → lines_from (before + 1) own ++ view_text c (before + length own) (state_from m own) ≡ command_text c before m own
 command_text-plain c before m own h =
     let view = view_text c (before + length own) (state_from m own) in
     ap (λ (t : List ℕ). lines_from (before + 1) own ++ t) (sym (append-nil view) ∙ ap (λ (t : List ℕ). view ++ t) (sym (end-none c m own h)))

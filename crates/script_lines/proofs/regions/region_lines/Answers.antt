@@ -1,12 +1,12 @@
 use Rattle.std.proofs.Common.{arith}
-use Rattle.script_lines.proofs.Numbers.{grown-new, grown-more, grown-all}
+use Rattle.script_lines.proofs.Numbers.{grown-new, grown-next, grown-all}
 use Rattle.script_lines.proofs.regions.region_lines.Goals as goal
 
-pub loop-number-init : goal.loop-number-init
-loop-number-init c = grown-new _ _
+pub loop-at-init : goal.loop-at-init
+loop-at-init g c = λ e. grown-new _ _
 
-pub loop-number-preserved : goal.loop-number-preserved
-loop-number-preserved c = grown-more _ _ _ _ _ c.loop-number.invariant c.in_ok-numbered_line.ensures
+pub loop-at-preserved : goal.loop-at-preserved
+loop-at-preserved g c = λ e. grown-next _ _ _ _ _ _ (c.loop-at.invariant e) c.region_id.ensures (c.in_ok-numbered_line.ensures.text e)
 
 pub returns : goal.returns
-returns c = grown-all _ _ _ _ _ c.loop-number.invariant (omega arith)
+returns g c = record { text = λ e. grown-all _ _ _ _ _ (c.loop-at.invariant e) (omega arith) }
