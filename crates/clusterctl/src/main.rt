@@ -3,6 +3,7 @@
 
 use rep_io::{StdSink, StdSource};
 use rep_types::{Argv, Items, Memory, Status, Text};
+use rep_vault::{MemVault, Outcome};
 use script_runner::run;
 use std::alloc::Global;
 use std::process::ExitCode;
@@ -20,14 +21,21 @@ fn words_of(rt: &HostRuntime, alloc: Global) -> Result<Argv, Memory> {
     Ok(words)
 }
 
+// Serves the words, over two stores in memory.
+fn serve(rt: &HostRuntime, alloc: Global) -> Result<Status, Memory> {
+    let words = words_of(rt, alloc)?;
+    let a = MemVault::new(alloc)?;
+    let b = MemVault::new(alloc)?;
+    let mut input = StdSource::new(rt.stdin());
+    let mut out = StdSink::new(io::writer(rt));
+    let Outcome { status, a: _, b: _ } = run(alloc, &words, &mut input, &mut out, a, b);
+    Ok(status)
+}
+
 fn main(rt: HostRuntime) -> ExitCode {
     let alloc = rt.alloc();
-    let status = match words_of(&rt, alloc) {
-        Ok(words) => {
-            let mut input = StdSource::new(rt.stdin());
-            let mut out = StdSink::new(io::writer(&rt));
-            run(alloc, &words, &mut input, &mut out)
-        }
+    let status = match serve(&rt, alloc) {
+        Ok(status) => status,
         Err(_) => Status::Memory,
     };
     if status != Status::Ok {

@@ -1,5 +1,8 @@
+pub mod Ending
+pub mod Lawful
+pub mod Living
 pub mod Performing
+pub mod Planning
 pub mod Printing
 pub mod Scripted
 pub mod Serving
-pub mod Steps

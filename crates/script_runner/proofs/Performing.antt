@@ -1,51 +1,52 @@
 -- A command goes on by one event.
-use Rattle.std.proofs.Common.{◌≡◌, List, [], ◌∷◌, ◌++◌, Some, None, refl, sym, ap, ◌∙◌, append_assoc}
-use Rattle.std.proofs.lemmas.List.{append-nil}
+use Rattle.std.proofs.Common.{◌≡◌, List, [], ◌∷◌, ◌++◌, map, Some, None, Result, Ok, Err, OnOk, refl, sym, ap, ◌∙◌, append_assoc}
+use Rattle.std.proofs.lemmas.List.{append-nil, map-append}
 use Rattle.rep_types.specs.declared.reply.Reply.{Reply}
 use Rattle.rep_types.specs.declared.record.Record.{Record}
+use Rattle.rep_model.specs.declared.machine.Machine.{Machine}
 use Rattle.script_text.specs.declared.command.Command.{Command}
-use Rattle.script_text.specs.Expansion.{next_event, GoesOn, Performs}
+use Rattle.script_text.specs.Due.{reply_in, due, Does}
 
--- the records are the command's next events so far
-abbrev pub GoesSoFar : Command → List Reply → List Record → Type 0
-GoesSoFar c replies [] = Unit {0}
-GoesSoFar c replies (r ∷ rs) = (next_event c replies ≡ Some r.event) × (r.actor ≡ 0) × GoesSoFar c (replies ++ r.reply ∷ []) rs
+-- behind these, the records are the command's next events so far
+abbrev DoesSoFar : Command → Machine → List Record → List Record → Type 0
+DoesSoFar c m before [] = Unit {0}
+DoesSoFar c m before (r ∷ rs) = (due c m before ≡ Some r.event) × (r.actor ≡ 0) × DoesSoFar c m (before ++ r ∷ []) rs
 
-abbrev replies_after : List Reply → List Record → List Reply
-replies_after replies [] = replies
-replies_after replies (r ∷ rs) = replies_after (replies ++ r.reply ∷ []) rs
+does-push : (c : Command) (m : Machine) (before own : List Record) (r : Record) → DoesSoFar c m before own → due c m (before ++ own) ≡ Some r.event → r.actor ≡ 0 → DoesSoFar c m before (own ++ r ∷ [])
+does-push c m before [] r g e a = (ap (due c m) (sym (append-nil before)) ∙ e, a, tt)
+does-push c m before (x ∷ own) r g e a = (g.0, g.1, does-push c m (before ++ x ∷ []) own r g.2 (ap (due c m) (append_assoc before (x ∷ []) own) ∙ e) a)
 
-GoesSoFar-push : (c : Command) (replies : List Reply) (own : List Record) (r : Record) → GoesSoFar c replies own → next_event c (replies_after replies own) ≡ Some r.event → r.actor ≡ 0 → GoesSoFar c replies (own ++ r ∷ [])
-GoesSoFar-push c replies [] r g e a = (e, a, tt)
-GoesSoFar-push c replies (x ∷ own) r g e a = (g.0, g.1, GoesSoFar-push c (replies ++ x.reply ∷ []) own r g.2 e a)
-
-replies_after-push : (replies : List Reply) (own : List Record) (r : Record) → replies_after replies (own ++ r ∷ []) ≡ replies_after replies own ++ r.reply ∷ []
-replies_after-push replies [] r = refl
-replies_after-push replies (x ∷ own) r = replies_after-push (replies ++ x.reply ∷ []) own r
-
-GoesSoFar-end : (c : Command) (replies : List Reply) (own : List Record) → GoesSoFar c replies own → next_event c (replies_after replies own) ≡ None → GoesOn c replies own
-GoesSoFar-end c replies [] g e = e
-GoesSoFar-end c replies (x ∷ own) g e = (g.0, g.1, GoesSoFar-end c (replies ++ x.reply ∷ []) own g.2 e)
+does-end : (c : Command) (m : Machine) (before own : List Record) → DoesSoFar c m before own → due c m (before ++ own) ≡ None → Does c m before own
+does-end c m before [] g e = ap (due c m) (sym (append-nil before)) ∙ e
+does-end c m before (x ∷ own) g e = (g.0, g.1, does-end c m (before ++ x ∷ []) own g.2 (ap (due c m) (append_assoc before (x ∷ []) own) ∙ e))
 
 -- the records so far of a command whose replies are known
-pub record SoFar (c : Command) (before now : List Record) (replies : List Reply) : Type 0 where
+pub record SoFar (c : Command) (m : Machine) (before now : List Record) (replies : List Reply) : Type 0 where
   pub own : List Record
   pub grown : now ≡ before ++ own
-  pub events : GoesSoFar c [] own
-  pub answers : replies ≡ replies_after [] own
+  pub events : DoesSoFar c m [] own
+  pub answers : replies ≡ map reply_in own
 
-pub SoFar-new : (c : Command) (before : List Record) → SoFar c before before []
-SoFar-new c before = record { own = []; grown = sym (append-nil before); events = tt; answers = refl }
+pub SoFar-new : (c : Command) (m : Machine) (before : List Record) → SoFar c m before before []
+SoFar-new c m before = record { own = []; grown = sym (append-nil before); events = tt; answers = refl }
 
-pub SoFar-push : (c : Command) (before now next : List Record) (replies more : List Reply) (r : Record) → SoFar c before now replies → next_event c replies ≡ Some r.event → r.actor ≡ 0 → next ≡ now ++ r ∷ [] → more ≡ replies ++ r.reply ∷ [] → SoFar c before next more
-SoFar-push c before now next replies more r so_far e a n m =
+pub SoFar-push : (c : Command) (m : Machine) (before now next : List Record) (replies more : List Reply) (r : Record) (so_far : SoFar c m before now replies) → due c m so_far.own ≡ Some r.event → r.actor ≡ 0 → next ≡ now ++ r ∷ [] → more ≡ replies ++ r.reply ∷ [] → SoFar c m before next more
+SoFar-push c m before now next replies more r so_far e a n k =
     let own = so_far.own in record {
       own = own ++ r ∷ [];
       grown = n ∙ ap (λ rs. rs ++ r ∷ []) so_far.grown ∙ append_assoc before own (r ∷ []);
-      events = GoesSoFar-push c [] own r so_far.events (ap (next_event c) (sym so_far.answers) ∙ e) a;
-      answers = m ∙ ap (λ rs. rs ++ r.reply ∷ []) so_far.answers ∙ sym (replies_after-push [] own r);
+      events = does-push c m [] own r so_far.events e a;
+      answers = k ∙ ap (λ rs. rs ++ r.reply ∷ []) so_far.answers ∙ sym (map-append reply_in own (r ∷ []));
     }
 
-pub SoFar-end : (c : Command) (before now : List Record) (replies : List Reply) → SoFar c before now replies → next_event c replies ≡ None → (own : List Record) × (now ≡ before ++ own) × Performs c own
-SoFar-end c before now replies so_far e =
-    (so_far.own, so_far.grown, GoesSoFar-end c [] so_far.own so_far.events (ap (next_event c) (sym so_far.answers) ∙ e))
+pub SoFar-end : (c : Command) (m : Machine) (before now : List Record) (replies : List Reply) (so_far : SoFar c m before now replies) → due c m so_far.own ≡ None → (own : List Record) × (now ≡ before ++ own) × Does c m [] own
+SoFar-end c m before now replies so_far e = (so_far.own, so_far.grown, does-end c m [] so_far.own so_far.events e)
+
+-- a command without events
+pub no-events : (c : Command) (m : Machine) (old new : List Record) → new ≡ old → due c m [] ≡ None → (own : List Record) × (new ≡ old ++ own) × Does c m [] own
+no-events c m old new same e = ([], same ∙ sym (append-nil old), e)
+
+-- what holds whatever is answered
+pub always : {T E P : Type 0} (r : Result T E) → P → OnOk r P
+always (Ok x) p = p
+always (Err e) p = tt

@@ -4,18 +4,17 @@ use Rattle.std.proofs.Math.Seq.{drop-append_seam}
 use Rattle.std.proofs.lemmas.List.{append-nil}
 use Rattle.rep_types.specs.declared.record.Record.{Record}
 use Rattle.rep_model.specs.Runs.{state_of}
-use Rattle.rep_model.specs.State.{opening}
 use Rattle.rep_model.specs.declared.machine.Machine.{Machine}
 use Rattle.report_text.specs.Lines.{lines_from}
 use Rattle.script_text.specs.declared.command.Command.{Command}
-use Rattle.script_text.specs.Due.{Does, ExpandsFrom}
-use Rattle.script_text.specs.Expansion.{asks_state}
+use Rattle.script_text.specs.Due.{Does}
 use Rattle.script_lines.specs.Lines.{command_text, lines}
 use Rattle.script_lines.specs.Views.{view_text}
-use Rattle.script_lines.proofs.Whole.{state_of-append, ExpandsFrom-more, lines-new, lines-more, command_text-plain}
+use Rattle.script_runner.specs.Underway.{Printed}
+use Rattle.script_lines.proofs.Whole.{is_drain, state_of-append, ExpandsFrom-more, lines-new, lines-more, command_text-plain}
 
 -- the records from some place on and the view behind them are the command's lines
-pub printed : (c : Command) (old own now : List Record) (made : ℕ) (text next : List ℕ) → asks_state c ≡ false → now ≡ old ++ own → made ≡ length old → next ≡ text ++ (lines_from (made + 1) (drop made now) ++ view_text c (length now) (state_of now)) → next ≡ text ++ command_text c (length old) (state_of old) own
+pub printed : (c : Command) (old own now : List Record) (made : ℕ) (text next : List ℕ) → is_drain c ≡ false → now ≡ old ++ own → made ≡ length old → next ≡ text ++ (lines_from (made + 1) (drop made now) ++ view_text c (length now) (state_of now)) → next ≡ text ++ command_text c (length old) (state_of old) own
 printed c old own now made text next plain grown place h =
     let first = lines_from (length old + 1) own in
     h ∙ ap (λ (n : ℕ). text ++ (lines_from (n + 1) (drop n now) ++ view_text c (length now) (state_of now))) place
@@ -24,11 +23,6 @@ printed c old own now made text next plain grown place h =
     ∙ ap (λ (n : ℕ). text ++ (first ++ view_text c n (state_of (old ++ own)))) (length-append old own)
     ∙ ap (λ (m : Machine). text ++ (first ++ view_text c (length old + length own) m)) (state_of-append old own)
     ∙ ap (λ (t : List ℕ). text ++ t) (command_text-plain c (length old) (state_of old) own plain)
-
--- the commands so far have these records and these lines
-pub record Printed (commands : List Command) (records : List Record) (start text : List ℕ) : Type 0 where
-  pub expands : ExpandsFrom opening commands records
-  pub output : text ≡ start ++ lines commands records
 
 pub Printed-new : (text : List ℕ) → Printed [] [] text text
 Printed-new text = record { expands = refl; output = sym (append-nil text) ∙ ap (λ (t : List ℕ). text ++ t) (sym lines-new) }

@@ -12,6 +12,8 @@ use Rattle.rep_types.specs.declared.cell.Cell.{Cell}
 use Rattle.rep_types.specs.declared.cell.CellKind.{CellKind}
 use Rattle.rep_types.specs.declared.cell.CellKind.TheVariants as kind
 use Rattle.rep_types.specs.declared.table.Family.{Family}
+use Rattle.rep_types.specs.declared.state.Kind.{Kind}
+use Rattle.rep_types.specs.declared.state.Kind.TheVariants.{Plain, Serial, Synchronous}
 use Rattle.rep_types.specs.Edit.{repeats, same_column}
 use Rattle.rep_model.specs.Words.{is_paired, is_value, is_between, are_cells, are_names, are_families, repeats_name}
 use Rattle.script_text.specs.declared.cells.Content.{Content}
@@ -42,12 +44,14 @@ use Rattle.script_text.specs.declared.rule.Rule.{Rule}
 use Rattle.script_text.specs.declared.rule.Rule.TheVariants as rule
 use Rattle.script_text.specs.Cells.{is_value_byte, whole_of, byte_of, repeated_of, content_by, content_of, stamp_of, erased_by, erased_of, dated_by, dated_of, draft_of, repeats_column, are_drafts, drafts_word, used_with, kind_of, cell_of}
 use Rattle.script_text.specs.Cut.{cut_of}
-use Rattle.script_text.specs.Forms.{is_padded, digits, within, number_of, number_word, cluster_word, name_of, name_word, key_word, kind_word}
+use Rattle.script_text.specs.Forms.{is_padded, digits, within, number_of, number_word, cluster_word, name_of, name_word, key_word, kind_word, call_word}
 use Rattle.script_text.specs.Grammar.{is_printable, is_in, known_head, of_command, meaning, barred, head_line, words_line, line_meaning, after, with_command, read_on, read_lines, script, IsScript}
-use Rattle.script_text.specs.Heads.{head_of, is_barred, is_performed}
+use Rattle.pair_core.specs.Served as pair
+use Rattle.script_text.specs.Heads.{head_of, is_barred, is_performed, is_performed_kind}
 use Rattle.script_text.specs.Lines.{begins_with}
 use Rattle.script_text.specs.Lists.{all_of, parts_of, scope_of, family_of, repeats_family, are_tables, tables_word, specs_word}
-use Rattle.script_text.specs.Meanings.{cluster_alone, cluster_and_one, cluster_and_two, cluster_and_three, some_words, cluster_and_some, alone, on_cluster, on_server, on_region, on_place, on_flight, ship, send, table, show, peer}
+use Rattle.script_text.specs.Makings.{cluster_command, server_command, region_command, place_command}
+use Rattle.script_text.specs.Meanings.{cluster_alone, cluster_and_one, cluster_and_two, cluster_and_three, some_words, cluster_and_some, alone, on_cluster, on_server, on_region, on_place, on_flight, ship, send, fail, keep, table, get, show, performed_kind, peer}
 use Rattle.script_text.specs.Puts.{put_words, cluster_and_cells, put}
 use Rattle.script_text.specs.Steps.{◌>>=◌, and_then}
 use Rattle.script_text.specs.Words.{has_word, words_of, one_word, two_words, three_words, four_words}
@@ -300,49 +304,64 @@ and-true : (a b : Bool) → a ≡ true → b ≡ true → (a && b) ≡ true
 and-true true b h g = g
 and-true false b h g = absurd (cc h)
 
+alone-paired : (args : List (List ℕ)) (c : Cluster) → cluster_alone args ≡ Ok c → is_paired c ≡ true
+unfolding cluster_alone
+alone-paired args c h = let s = step-ok (one_word args) _ c h in cluster-paired s.0 c s.2
+
+cluster-is : (word : OnCluster) → is_performed (head.OnCluster word) ≡ true → (c : Cluster) → is_served (cluster_command word c) ≡ is_paired c
+cluster-is on_cluster_word.SyncAll p c = refl
+cluster-is on_cluster_word.Queues p c = refl
+cluster-is on_cluster_word.Regions p c = refl
+cluster-is _ p c = absurd (cc p)
+
 cluster-served : (word : OnCluster) (args : List (List ℕ)) (c : Command) → is_performed (head.OnCluster word) ≡ true → on_cluster word args ≡ Ok c → is_served c ≡ true
 unfolding on_cluster
-cluster-served on_cluster_word.Queues args c p h =
+cluster-served word args c p h =
     let s = step-ok (cluster_alone args) _ c h in
-    ap served_in (sym s.2)
-cluster-served on_cluster_word.Regions args c p h =
-    let s = step-ok (cluster_alone args) _ c h in
-    ap served_in (sym s.2)
-cluster-served _ args c p h = absurd (cc p)
+    ap served_in (sym s.2) ∙ cluster-is word p s.0 ∙ alone-paired args s.0 s.1
+
+server-is : (word : OnServer) → is_performed (head.OnServer word) ≡ true → (c : Cluster) (s : ℕ) → is_served (server_command word c s) ≡ is_paired c
+server-is server_word.Server p c s = refl
+server-is server_word.Sync p c s = refl
+server-is server_word.Roll p c s = refl
+server-is server_word.Crash p c s = refl
+server-is server_word.Seal p c s = refl
+server-is _ p c s = absurd (cc p)
 
 server-served : (word : OnServer) (args : List (List ℕ)) (c : Command) → is_performed (head.OnServer word) ≡ true → on_server word args ≡ Ok c → is_served c ≡ true
 unfolding on_server
-server-served server_word.Server args c p h =
+server-served word args c p h =
     let s = step-ok (cluster_and_one args) _ c h in
     let t = step-ok (number_word 1 64 s.0.1) _ c s.2 in
-    ap served_in (sym t.2) ∙ one-paired args s.0 s.1
-server-served server_word.Sync args c p h =
-    let s = step-ok (cluster_and_one args) _ c h in
-    let t = step-ok (number_word 1 64 s.0.1) _ c s.2 in
-    ap served_in (sym t.2) ∙ one-paired args s.0 s.1
-server-served _ args c p h = absurd (cc p)
+    ap served_in (sym t.2) ∙ server-is word p s.0.0 t.0 ∙ one-paired args s.0 s.1
+
+region-is : (word : OnRegion) → is_performed (head.OnRegion word) ≡ true → (c : Cluster) (r : ℕ) → is_served (region_command word c r) ≡ is_paired c
+region-is region_word.OpenEnd p c r = refl
+region-is region_word.CloseBegin p c r = refl
+region-is region_word.CloseEnd p c r = refl
+region-is region_word.Recover p c r = refl
+region-is region_word.Close p c r = refl
+region-is _ p c r = absurd (cc p)
 
 region-served : (word : OnRegion) (args : List (List ℕ)) (c : Command) → is_performed (head.OnRegion word) ≡ true → on_region word args ≡ Ok c → is_served c ≡ true
 unfolding on_region
-region-served region_word.OpenEnd args c p h =
+region-served word args c p h =
     let s = step-ok (cluster_and_one args) _ c h in
     let t = step-ok (number_word 1 4096 s.0.1) _ c s.2 in
-    ap served_in (sym t.2) ∙ one-paired args s.0 s.1
-region-served _ args c p h = absurd (cc p)
+    ap served_in (sym t.2) ∙ region-is word p s.0.0 t.0 ∙ one-paired args s.0 s.1
 
-place-served : (word : OnPlace) (args : List (List ℕ)) (c : Command) → is_performed (head.OnPlace word) ≡ true → on_place word args ≡ Ok c → is_served c ≡ true
+place-is : (word : OnPlace) (c : Cluster) (r s : ℕ) → is_served (place_command word c r s) ≡ is_paired c
+place-is place_word.OpenBegin c r s = refl
+place-is place_word.Open c r s = refl
+place-is place_word.Move c r s = refl
+
+place-served : (word : OnPlace) (args : List (List ℕ)) (c : Command) → on_place word args ≡ Ok c → is_served c ≡ true
 unfolding on_place
-place-served place_word.OpenBegin args c p h =
+place-served word args c h =
     let s = step-ok (cluster_and_two args) _ c h in
     let t = step-ok (number_word 1 4096 s.0.1) _ c s.2 in
     let u = step-ok (number_word 1 64 s.0.2) _ c t.2 in
-    ap served_in (sym u.2) ∙ two-paired args s.0 s.1
-place-served place_word.Open args c p h =
-    let s = step-ok (cluster_and_two args) _ c h in
-    let t = step-ok (number_word 1 4096 s.0.1) _ c s.2 in
-    let u = step-ok (number_word 1 64 s.0.2) _ c t.2 in
-    ap served_in (sym u.2) ∙ two-paired args s.0 s.1
-place-served _ args c p h = absurd (cc p)
+    ap served_in (sym u.2) ∙ place-is word s.0.0 t.0 u.0 ∙ two-paired args s.0 s.1
 
 flight-served : (word : OnFlight) (args : List (List ℕ)) (c : Command) → is_performed (head.OnFlight word) ≡ true → on_flight word args ≡ Ok c → is_served c ≡ true
 unfolding on_flight
@@ -381,6 +400,30 @@ table-served args c h =
     let u = step-ok (specs_word s.0.2) _ c t.2 in
     ap served_in (sym u.2) ∙ and-true _ _ (two-paired args s.0 s.1) (specs-named s.0.2 u.0 u.1)
 
+get-served : (args : List (List ℕ)) (c : Command) → get args ≡ Ok c → is_served c ≡ true
+unfolding get
+get-served args c h =
+    let s = step-ok (cluster_and_two args) _ c h in
+    let t = step-ok (name_word s.0.1) _ c s.2 in
+    let u = step-ok (key_word s.0.2) _ c t.2 in
+    ap served_in (sym u.2) ∙ two-paired args s.0 s.1
+
+fail-served : (args : List (List ℕ)) (c : Command) → fail args ≡ Ok c → is_served c ≡ true
+unfolding fail
+fail-served args c h =
+    let s = step-ok (cluster_and_some (codes "0") args) _ c h in
+    let t = step-ok (call_word s.0.1) _ c s.2 in
+    let u = step-ok (number_word 1 1000000 s.0.2) _ c t.2 in
+    let v = step-ok (number_word 0 65536 s.0.3) _ c u.2 in
+    ap served_in (sym v.2) ∙ and-true _ _ (some-paired (codes "0") args s.0 s.1) (and_parts (nat_le 1 u.0) (nat_le u.0 1000000) (word-within 1 1000000 s.0.2 u.0 u.1)).0
+
+keep-served : (args : List (List ℕ)) (c : Command) → keep args ≡ Ok c → is_served c ≡ true
+unfolding keep
+keep-served args c h =
+    let s = step-ok (cluster_and_one args) _ c h in
+    let t = step-ok (number_word 0 65536 s.0.1) _ c s.2 in
+    ap served_in (sym t.2) ∙ one-paired args s.0 s.1
+
 show-served : (args : List (List ℕ)) (c : Command) → show args ≡ Ok c → is_served c ≡ true
 unfolding show
 show-served args c h =
@@ -388,14 +431,26 @@ show-served args c h =
     let t = step-ok (name_word s.0.1) _ c s.2 in
     ap served_in (sym t.2) ∙ one-paired args s.0 s.1
 
+kind-plain : (k : Kind) → is_performed_kind k ≡ true → pair.is_plain k ≡ true
+kind-plain Plain h = refl
+kind-plain Serial h = absurd (cc h)
+kind-plain Synchronous h = absurd (cc h)
+
+word-plain : (w : List ℕ) (k : Kind) → performed_kind w ≡ Ok k → pair.is_plain k ≡ true
+unfolding performed_kind
+word-plain w k h =
+    let s = step-ok (kind_word w) _ k h in
+    let t = if-ok (is_performed_kind s.0) s.0 rule.Words k s.2 in
+    subst (λ (x : Kind). pair.is_plain x ≡ true) t.1 (kind-plain s.0 t.0)
+
 peer-served : (args : List (List ℕ)) (c : Command) → peer args ≡ Ok c → is_served c ≡ true
 unfolding peer
 peer-served args c h =
     let s = step-ok (cluster_and_three args) _ c h in
     let t = step-ok (number_word 1 4 s.0.1) _ c s.2 in
-    let u = step-ok (kind_word s.0.2) _ c t.2 in
+    let u = step-ok (performed_kind s.0.2) _ c t.2 in
     let v = step-ok (tables_word s.0.3) _ c u.2 in
-    ap served_in (sym v.2) ∙ and-true _ _ (three-paired args s.0 s.1) (tables-named s.0.3 v.0 v.1)
+    ap served_in (sym v.2) ∙ and-true _ _ (word-plain s.0.2 u.0 u.1) (and-true _ _ (three-paired args s.0 s.1) (tables-named s.0.3 v.0 v.1))
 
 -- a line's command, where it has one
 abbrev option_served : Option Command → Bool
@@ -436,12 +491,12 @@ meaning-served repeated (head.OnCluster word) args made p i h = command-served r
 meaning-served repeated (head.OnServer word) args made p i h = command-served repeated _ made (λ c g. server-served word args c p g) h
 meaning-served repeated (head.OnRegion word) args made p i h = command-served repeated _ made (λ c g. region-served word args c p g) h
 meaning-served repeated (head.OnPeer word) args made p i h = absurd (cc p)
-meaning-served repeated (head.OnPlace word) args made p i h = command-served repeated _ made (λ c g. place-served word args c p g) h
+meaning-served repeated (head.OnPlace word) args made p i h = command-served repeated _ made (λ c g. place-served word args c g) h
 meaning-served repeated (head.OnFlight word) args made p i h = command-served repeated _ made (λ c g. flight-served word args c p g) h
 meaning-served repeated (head.Alone word) args made p i h = command-served repeated _ made (λ c g. alone-served word args c p i g) h
 meaning-served repeated head.Table args made p i h = command-served repeated _ made (λ c g. table-served args c g) h
 meaning-served repeated head.Put args made p i h = put-served repeated args made h
-meaning-served repeated head.Get args made p i h = absurd (cc p)
+meaning-served repeated head.Get args made p i h = command-served repeated _ made (λ c g. get-served args c g) h
 meaning-served repeated head.Show args made p i h = command-served repeated _ made (λ c g. show-served args c g) h
 meaning-served repeated head.Split args made p i h = absurd (cc p)
 meaning-served repeated head.Merge args made p i h = absurd (cc p)
@@ -450,8 +505,8 @@ meaning-served repeated head.Ship args made p i h = command-served repeated _ ma
 meaning-served repeated head.Send args made p i h = command-served repeated _ made (λ c g. send-served args c g) h
 meaning-served repeated head.Claim args made p i h = absurd (cc p)
 meaning-served repeated head.TransitBegin args made p i h = absurd (cc p)
-meaning-served repeated head.Fail args made p i h = absurd (cc p)
-meaning-served repeated head.Keep args made p i h = absurd (cc p)
+meaning-served repeated head.Fail args made p i h = command-served repeated _ made (λ c g. fail-served args c g) h
+meaning-served repeated head.Keep args made p i h = command-served repeated _ made (λ c g. keep-served args c g) h
 
 barred-ok : (b : Bool) (reading : Result Made Rule) (made : Made) → barred b reading ≡ Ok made → reading ≡ Ok made
 barred-ok false reading made h = h

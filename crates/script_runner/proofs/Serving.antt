@@ -1,24 +1,28 @@
 -- The commands of scripts are served, and so are their events.
 use Rattle.std.proofs.Common.{◌≡◌, ℕ, ◌&&◌, Bool, true, false, cond, List, [], ◌∷◌, Option, Some, None, refl, ap, subst, arith}
-use Rattle.std.specs.Prelude.{nat_lt, nat_le}
+use Rattle.std.specs.Prelude.{nat_lt, nat_le, slice_get, length}
 use Rattle.std.specs.Option.{option_map}
 use Rattle.std.proofs.lemmas.Bool.{and_parts}
 use Rattle.std.proofs.lemmas.Bool.Decides.{nat_tests}
-use Rattle.rep_types.specs.declared.ids.Cluster.{Cluster}
 use Rattle.rep_types.specs.declared.event.Event.{Event}
 use Rattle.rep_types.specs.declared.event.Event.TheVariants as event
+use Rattle.rep_types.specs.declared.record.Record.{Record}
 use Rattle.rep_types.specs.declared.reply.Reply.{Reply}
 use Rattle.rep_types.specs.declared.reply.Reply.TheVariants as reply
-use Rattle.rep_model.specs.Built.{is_built}
 use Rattle.rep_model.specs.Words.{is_paired, is_worded}
+use Rattle.rep_model.specs.declared.machine.Machine.{Machine}
+use Rattle.pair_core.specs.Served as pair
 use Rattle.script_text.specs.declared.command.Command.{Command}
 use Rattle.script_text.specs.declared.command.Command.TheVariants as command
-use Rattle.script_text.specs.Expansion.{passes, flight_sent, only_if, asks_state, next_event}
+use Rattle.script_text.specs.Drains.{live_servers}
+use Rattle.script_text.specs.Due.{goes_on, due}
+use Rattle.script_text.specs.Expansion.{passes, flight_sent, only_if}
+use Rattle.script_lines.proofs.Whole.{is_drain}
 use Rattle.script_runner.specs.Served.{is_served}
 
--- an event that the machine takes
+-- an event that the pair takes
 abbrev pub IsTaken : Event → Type 0
-IsTaken e = (is_built e ≡ true) × (is_worded e ≡ true)
+IsTaken e = (pair.is_served e ≡ true) × (is_worded e ≡ true)
 
 abbrev event_or : Event → Option Event → Event
 event_or e None = e
@@ -31,57 +35,53 @@ taken-only : (b : Bool) (o : Option Event) (e : Event) → only_if b o ≡ Some 
 taken-only true o e h taken = taken e h
 taken-only false o e h taken = absurd (cc h)
 
-open-taken : (c : Cluster) (r : ℕ) (e : Event) → is_paired c ≡ true → Some (event.OpenEnd c r) ≡ Some e → IsTaken e
-open-taken c r e paired h = taken-some _ e h (refl, paired)
+taken-map : {X : Type 0} (f : X → Event) (o : Option X) (e : Event) → ((x : X) → IsTaken (f x)) → option_map f o ≡ Some e → IsTaken e
+taken-map f None e taken h = absurd (cc h)
+taken-map f (Some x) e taken h = taken-some (f x) e h (taken x)
 
 and-true : (a : Bool) → a ≡ true → (a && true) ≡ true
 and-true true h = refl
 and-true false h = h
 
-deliver-taken : (sent : Reply) (e : Event) → option_map event.Deliver (flight_sent sent) ≡ Some e → IsTaken e
-deliver-taken (reply.Sent flight entries forms) e h =
-    (elim (nat_lt 0 flight) as (λ (b : Bool). nat_lt 0 flight ≡ b → option_map event.Deliver (cond b (Some flight) None) ≡ Some e → IsTaken e) [
-      | true ↦ λ less g. taken-some (event.Deliver flight) e g (refl, at_least flight less)
+flight-taken : (make : ℕ → Event) (sent : Reply) (e : Event) → ((k : ℕ) → nat_le 1 k ≡ true → IsTaken (make k)) → option_map make (flight_sent sent) ≡ Some e → IsTaken e
+flight-taken make (reply.Sent flight entries forms) e taken h =
+    (elim (nat_lt 0 flight) as (λ (b : Bool). nat_lt 0 flight ≡ b → option_map make (cond b (Some flight) None) ≡ Some e → IsTaken e) [
+      | true ↦ λ less g. taken-some (make flight) e g (taken flight (at_least flight less))
       | false ↦ λ less g. absurd (cc g)
     ]) refl h
   where
     at_least : (n : ℕ) → nat_lt 0 n ≡ true → nat_le 1 n ≡ true
     at_least n less = grind (arith, nat_tests)
-deliver-taken _ e h = absurd (cc h)
+flight-taken make _ e taken h = absurd (cc h)
 
-confirm-taken : (sent : Reply) (e : Event) → option_map event.Confirm (flight_sent sent) ≡ Some e → IsTaken e
-confirm-taken (reply.Sent flight entries forms) e h =
-    (elim (nat_lt 0 flight) as (λ (b : Bool). nat_lt 0 flight ≡ b → option_map event.Confirm (cond b (Some flight) None) ≡ Some e → IsTaken e) [
-      | true ↦ λ less g. taken-some (event.Confirm flight) e g (refl, at_least flight less)
-      | false ↦ λ less g. absurd (cc g)
-    ]) refl h
-  where
-    at_least : (n : ℕ) → nat_lt 0 n ≡ true → nat_le 1 n ≡ true
-    at_least n less = grind (arith, nat_tests)
-confirm-taken _ e h = absurd (cc h)
+-- each event of a served command is one that the pair takes
+pub event-taken : (c : Command) (m : Machine) (rs : List Record) (e : Event) → is_served c ≡ true → due c m rs ≡ Some e → IsTaken e
+event-taken (command.Single x) m [] e served h = taken-some x e h (and_parts (pair.is_served x) (is_worded x) served)
+event-taken (command.Single x) m (r ∷ rs) e served h = absurd (cc h)
+event-taken (command.Open c r s) m [] e served h = taken-some _ e h (refl, served)
+event-taken (command.Open c r s) m (x ∷ []) e served h = taken-only (passes x.reply) _ e h (λ y g. taken-some _ y g (refl, served))
+event-taken (command.Open c r s) m (x ∷ y ∷ rs) e served h = absurd (cc h)
+event-taken (command.Close c r) m [] e served h = taken-some _ e h (refl, served)
+event-taken (command.Close c r) m (x ∷ []) e served h = taken-only (passes x.reply) _ e h (λ y g. taken-some _ y g (refl, served))
+event-taken (command.Close c r) m (x ∷ y ∷ rs) e served h = absurd (cc h)
+event-taken (command.Move c r s) m [] e served h = taken-some _ e h (refl, served)
+event-taken (command.Move c r s) m (x ∷ []) e served h = taken-only (passes x.reply) _ e h (λ y g. taken-some _ y g (refl, served))
+event-taken (command.Move c r s) m (x ∷ y ∷ []) e served h = taken-only (passes y.reply) _ e h (λ z g. taken-some _ z g (refl, served))
+event-taken (command.Move c r s) m (x ∷ y ∷ z ∷ []) e served h = taken-only (passes z.reply) _ e h (λ w g. taken-some _ w g (refl, served))
+event-taken (command.Move c r s) m (x ∷ y ∷ z ∷ w ∷ rs) e served h = absurd (cc h)
+event-taken (command.Ship c p s) m [] e served h = taken-some _ e h (refl, and-true (is_paired c) served)
+event-taken (command.Ship c p s) m (x ∷ []) e served h = flight-taken event.Deliver x.reply e (λ k least. (refl, least)) h
+event-taken (command.Ship c p s) m (x ∷ y ∷ []) e served h = taken-only (passes y.reply) _ e h (λ z g. flight-taken event.Confirm x.reply z (λ k least. (refl, least)) g)
+event-taken (command.Ship c p s) m (x ∷ y ∷ z ∷ rs) e served h = absurd (cc h)
+event-taken (command.SyncAll c) m rs e served h = taken-only (goes_on rs) _ e h (λ y g. taken-map (event.Sync c) (slice_get (live_servers c m) (length rs)) y (λ s. (refl, served)) g)
+event-taken (command.Queues c) m rs e served h = absurd (cc h)
+event-taken (command.Regions c) m rs e served h = absurd (cc h)
+event-taken command.Status m rs e served h = absurd (cc h)
+event-taken (command.Fail c call nth bytes) m rs e served h = absurd (cc h)
+event-taken (command.Keep c bytes) m rs e served h = absurd (cc h)
+event-taken _ m rs e served h = absurd (cc served)
 
--- each event of a served command is one that the machine takes
-pub event-taken : (c : Command) (replies : List Reply) (e : Event) → is_served c ≡ true → next_event c replies ≡ Some e → IsTaken e
-event-taken (command.Single x) [] e served h = taken-some x e h (and_parts (is_built x) (is_worded x) served)
-event-taken (command.Single x) (r ∷ rs) e served h = absurd (cc h)
-event-taken (command.Open c r s) [] e served h = taken-some _ e h (refl, served)
-event-taken (command.Open c r s) (x ∷ []) e served h = taken-only (passes x) _ e h (λ y g. open-taken c r y served g)
-event-taken (command.Open c r s) (x ∷ y ∷ rs) e served h = absurd (cc h)
-event-taken (command.Ship c p s) [] e served h = taken-some _ e h (refl, and-true (is_paired c) served)
-event-taken (command.Ship c p s) (x ∷ []) e served h = deliver-taken x e h
-event-taken (command.Ship c p s) (x ∷ y ∷ []) e served h = taken-only (passes y) _ e h (confirm-taken x)
-event-taken (command.Ship c p s) (x ∷ y ∷ z ∷ rs) e served h = absurd (cc h)
-event-taken (command.Queues c) replies e served h = absurd (cc h)
-event-taken (command.Regions c) replies e served h = absurd (cc h)
-event-taken command.Status replies e served h = absurd (cc h)
-event-taken _ replies e served h = absurd (cc served)
-
--- and none asks for the state
-pub served-asks : (c : Command) → is_served c ≡ true → asks_state c ≡ false
-served-asks (command.Single e) served = refl
-served-asks (command.Open c r s) served = refl
-served-asks (command.Ship c p s) served = refl
-served-asks (command.Queues c) served = refl
-served-asks (command.Regions c) served = refl
-served-asks command.Status served = refl
-served-asks _ served = absurd (cc served)
+-- and none is a drain
+pub served-drains : (c : Command) → is_served c ≡ true → is_drain c ≡ false
+served-drains command.Drain served = absurd (cc served)
+served-drains _ served = refl

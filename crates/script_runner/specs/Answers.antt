@@ -2,7 +2,7 @@
 use Rattle.std.specs.Prelude.{ℕ, ◌≡◌, List, [], ◌∷◌, Bool, false, codes}
 use Rattle.std.specs.Str.{bytes_eq}
 use Rattle.rep_types.specs.declared.status.Status.{Status}
-use Rattle.rep_types.specs.declared.status.Status.TheVariants.{Ok, Syntax, TooLong, ReadFault, WriteFault, Memory, Full, Differs}
+use Rattle.rep_types.specs.declared.status.Status.TheVariants.{Ok, BadWords, Syntax, TooLong, ReadFault, WriteFault, Memory, Full, Differs}
 
 -- the one form of the words
 abbrev pub is_run : List (List ℕ) → Bool
@@ -61,3 +61,11 @@ Ends Ok = Unit {0}
 Ends WriteFault = Unit {0}
 Ends (Syntax line rule) = Unit {0}
 Ends _ = ⊥
+
+-- nothing was performed
+abbrev pub Refuses : Status → Type 0
+Refuses BadWords = Unit {0}
+Refuses (Syntax line rule) = Unit {0}
+Refuses TooLong = Unit {0}
+Refuses ReadFault = Unit {0}
+Refuses _ = ⊥

@@ -1,4 +1,7 @@
 pub mod Answers
-pub mod Pair
+pub mod Asked
+pub mod Lawful
+pub mod Plans
 pub mod Ran
 pub mod Served
+pub mod Underway

@@ -1,8 +1,10 @@
-//! Runs a script over two clusters and writes what happened. The rules are this project's own.
+//! Runs a script over two clusters and their stores, and writes what happened. The rules are this project's own.
 #![tactic(auto)]
 
-mod pair;
+mod asked;
 mod perform;
+#[cfg(test)]
+mod rows;
 mod runner;
 #[cfg(test)]
 mod tests;

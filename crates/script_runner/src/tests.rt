@@ -1,8 +1,10 @@
 ghost use Rattle.std.specs.Prelude.{◌≡◌, ◌≤◌};
 
 use super::*;
+use crate::rows::{FAILED_APPEND, FAILED_SYNC, FULL_LOG, LOST, MOVED, Row, TORN};
 use rep_io::{MemSink, MemSource};
 use rep_types::{Argv, Bytes, Items, Status, Text, Words};
+use rep_vault::{MemVault, Outcome};
 use std::alloc::Global;
 use std::test::Fail;
 
@@ -67,7 +69,9 @@ fn runs(
     let writes = Words::from_slice(alloc, [ports.write].as_slice())?;
     let mut input = MemSource::new(script, reads, ports.most);
     let mut out = MemSink::new(alloc, 4096, writes, ports.most)?;
-    let status = run(alloc, &words, &mut input, &mut out);
+    let a = MemVault::new(alloc)?;
+    let b = MemVault::new(alloc)?;
+    let Outcome { status, a: _, b: _ } = run(alloc, &words, &mut input, &mut out, a, b);
     Ok(status == answer && out.bytes() == text)
 }
 
@@ -98,6 +102,25 @@ fn scripts_print_their_lines(rt: HostRuntime) -> Result<(), Fail> {
         assert!(rt; shipped_nothing(alloc, most)?);
         assert!(rt; runs(alloc, Items::new(alloc), sound(most), Status::Ok, b"")?);
     }
+    Ok(())
+}
+
+// Whether a row prints its lines behind those of the opening.
+fn prints(alloc: Global, row: &Row) -> Result<bool, Fail> {
+    let script = join(alloc, OPENING, row.script)?;
+    let lines = join(alloc, OPENED, row.lines)?;
+    runs(alloc, script, sound(4096), Status::Ok, lines.as_slice())
+}
+
+#[test]
+fn rows_print_their_lines(rt: HostRuntime) -> Result<(), Fail> {
+    let alloc = rt.alloc();
+    assert!(rt; prints(alloc, &FAILED_APPEND)?);
+    assert!(rt; prints(alloc, &FAILED_SYNC)?);
+    assert!(rt; prints(alloc, &FULL_LOG)?);
+    assert!(rt; prints(alloc, &MOVED)?);
+    assert!(rt; prints(alloc, &LOST)?);
+    assert!(rt; prints(alloc, &TORN)?);
     Ok(())
 }
 
