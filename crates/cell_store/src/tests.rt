@@ -1,5 +1,6 @@
 use crate::CellStore;
-use rep_types::{Bytes, Cell, CellKind, Cells, Edit, Key, Name, Views};
+use rep_model::see;
+use rep_types::{Bytes, Cell, CellKind, Cells, Edit, Items, Key, Name, Views};
 use std::alloc::Global;
 use std::test::Fail;
 
@@ -61,6 +62,15 @@ fn scanned(alloc: Global, lines: &[Line<'_>], each: usize) -> Result<String, Fai
     text(alloc, &stored(alloc, lines, each)?.scan(alloc)?)
 }
 
+// What the plain program sees of the same edits.
+fn seen(alloc: Global, lines: &[Line<'_>], each: usize) -> Result<String, Fail> {
+    let mut edits = Items::new(alloc);
+    for part in lines.chunks(each.max(1)) {
+        edits.push(edit(alloc, part)?)?;
+    }
+    text(alloc, &see(alloc, edits.as_slice())?)
+}
+
 fn got(alloc: Global, store: &CellStore, row: &str) -> Result<String, Fail> {
     text(alloc, &store.get(alloc, &Key::new(alloc, row)?)?)
 }
@@ -83,6 +93,7 @@ fn a_column_shows_its_put_above_deletes(rt: HostRuntime) -> Result<(), Fail> {
     ];
     for (lines, expected) in table {
         assert_eq!(rt; scanned(rt.alloc(), &lines, 1)?.as_str(), expected);
+        assert_eq!(rt; seen(rt.alloc(), &lines, 1)?.as_str(), expected);
     }
     assert_eq!(rt;
         scanned(rt.alloc(), &[high, below], 1)?.as_str(),
@@ -116,5 +127,6 @@ fn rows_are_read_alone_and_tables_in_order(rt: HostRuntime) -> Result<(), Fail> 
     }
     let all = "r1 f:a 1 four;r1 f:b 1 three;r10 f:b 2 five;r2 g:a 1 one;";
     assert_eq!(rt; scanned(rt.alloc(), &lines, 2)?.as_str(), all);
+    assert_eq!(rt; seen(rt.alloc(), &lines, 2)?.as_str(), all);
     Ok(())
 }

@@ -1,6 +1,9 @@
 //! Runs a script of the replication of two clusters.
 #![tactic(auto)]
 
+#[cfg(test)]
+mod tests;
+
 use rep_io::{StdSink, StdSource};
 use rep_types::{Argv, Items, Memory, Status, Text};
 use rep_vault::{MemVault, Outcome};

@@ -8,6 +8,3 @@ mod views;
 
 pub use pair::{NoPair, Pair, StepError, Stores};
 pub use sides::Sides;
-
-#[cfg(test)]
-mod tests;

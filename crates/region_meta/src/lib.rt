@@ -14,6 +14,3 @@ mod split;
 pub use error::MetaError;
 pub use map::RegionMap;
 pub use region::Region;
-
-#[cfg(test)]
-mod tests;

@@ -1,4 +1,3 @@
-pub mod Again
 pub mod Arriving
 pub mod Batches
 pub mod Calm

@@ -1,5 +1,5 @@
 pub mod Changes
-pub mod Built
+pub mod Size
 pub mod Calm
 pub mod Commits
 pub mod Delivering

@@ -1,6 +1,6 @@
 // The rows that change a peer: enable, disable, remove and makeserial.
 ghost use Rattle.std.specs.Prelude.{◌≡◌, ◌+◌, ◌≤◌, ◌==◌, not, filter, find, length, IfOk, OnOk, IfSome, MatchOption, true};
-ghost use Rattle.rep_model.specs.Built.{size};
+ghost use Rattle.rep_model.specs.Size.{size};
 ghost use Rattle.rep_model.specs.Calm.{is_calm};
 ghost use Rattle.rep_model.specs.Keyed.{replace};
 ghost use Rattle.rep_model.specs.State.{of, with, is_peer, with_peer};

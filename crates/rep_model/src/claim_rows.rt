@@ -1,6 +1,6 @@
 // The rows of a flight that is lost and of a queue that is claimed.
 ghost use Rattle.std.specs.Prelude.{◌≡◌, ◌+◌, ◌≤◌, None, find, length, IfSome, MatchOption, true, IfOk};
-ghost use Rattle.rep_model.specs.Built.{size};
+ghost use Rattle.rep_model.specs.Size.{size};
 ghost use Rattle.rep_model.specs.Calm.{is_calm};
 ghost use Rattle.rep_model.specs.Keyed.{replace};
 ghost use Rattle.rep_model.specs.State.{is_queue, queue_of, with_queue};

@@ -1,6 +1,6 @@
 // The rows of regions that close.
 ghost use Rattle.std.specs.Prelude.{◌≡◌, ◌+◌, ◌^◌, ◌<◌, ◌≤◌, IfOk, length, true, [], ◌∷◌, None, OnOk, IfSome, ◌++◌, false};
-ghost use Rattle.rep_model.specs.Built.{size};
+ghost use Rattle.rep_model.specs.Size.{size};
 ghost use Rattle.rep_model.specs.Calm.{is_calm};
 ghost use Rattle.rep_model.specs.Places.{closes_at};
 ghost use Rattle.rep_model.specs.RegionEvents.{close_begin_row, close_end_row};

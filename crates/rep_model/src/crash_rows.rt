@@ -1,6 +1,6 @@
 // The rows of servers that die, and of their logs that are sealed.
 ghost use Rattle.std.specs.Prelude.{◌≡◌, ◌+◌, ◌==◌, [], ◌∷◌, ◌^◌, ◌<◌, ◌≤◌, false, true, find, map, IfOk, IfSome, length};
-ghost use Rattle.rep_model.specs.Built.{size};
+ghost use Rattle.rep_model.specs.Size.{size};
 ghost use Rattle.rep_model.specs.Calm.{is_calm};
 ghost use Rattle.rep_model.specs.Keyed.{replace};
 ghost use Rattle.rep_model.specs.LogEvents.{crash_row, seal_row};

@@ -1,6 +1,6 @@
 // The row of a delivery: the forms arrive in order, each synced before the next.
 ghost use Rattle.std.specs.Prelude.{◌≡◌, ◌+◌, ◌^◌, ◌<◌, ◌≤◌, None, true, false, IfOk, IfSome, MatchOption, length, find};
-ghost use Rattle.rep_model.specs.Built.{size};
+ghost use Rattle.rep_model.specs.Size.{size};
 ghost use Rattle.rep_model.specs.Keyed.{replace};
 ghost use Rattle.rep_model.specs.Row.{answers};
 ghost use Rattle.rep_model.specs.Calm.{is_calm, is_fault};

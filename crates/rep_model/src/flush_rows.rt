@@ -1,6 +1,6 @@
 // The rows that flush regions, and that read their files anew.
 ghost use Rattle.std.specs.Prelude.{◌≡◌, ◌+◌, ◌≤◌, find, IfOk, IfSome, true};
-ghost use Rattle.rep_model.specs.Built.{size};
+ghost use Rattle.rep_model.specs.Size.{size};
 ghost use Rattle.rep_model.specs.Calm.{is_calm};
 ghost use Rattle.rep_model.specs.Keyed.{replace, if_some};
 ghost use Rattle.rep_model.specs.Places.{lost_at};

@@ -1,6 +1,6 @@
 // The rows of servers and their logs.
 ghost use Rattle.std.specs.Prelude.{◌≡◌, ◌+◌, ◌++◌, ◌∷◌, [], ◌^◌, ◌<◌, ◌≤◌, None, true, if◌then◌else◌, IfOk, OnOk, length};
-ghost use Rattle.rep_model.specs.Built.{size};
+ghost use Rattle.rep_model.specs.Size.{size};
 ghost use Rattle.rep_model.specs.Row.{answers, fault_among, site};
 ghost use Rattle.rep_model.specs.State.{other};
 ghost use Rattle.rep_types.specs.declared.state.Call.TheVariants as Call;

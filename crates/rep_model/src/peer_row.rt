@@ -2,7 +2,7 @@
 ghost use Rattle.std.specs.Prelude.{◌≡◌, ◌+◌, ◌≤◌, ◌++◌, ◌==◌, true, IfOk, OnOk};
 ghost use Rattle.std.specs.List.{list_any};
 ghost use Rattle.std.specs.Str.{bytes_eq};
-ghost use Rattle.rep_model.specs.Built.{size};
+ghost use Rattle.rep_model.specs.Size.{size};
 ghost use Rattle.rep_model.specs.Keyed.{if_some};
 ghost use Rattle.rep_model.specs.Row.{answers, first};
 ghost use Rattle.rep_model.specs.Calm.{is_calm};

@@ -1,6 +1,6 @@
 // The rows of promotions: promotebegin, replay and promoteend.
 ghost use Rattle.std.specs.Prelude.{◌≡◌, ◌+◌, ◌++◌, ◌≤◌, not, Some, None, filter, map, length, IfOk, OnOk, true, [], ◌∷◌, take};
-ghost use Rattle.rep_model.specs.Built.{size};
+ghost use Rattle.rep_model.specs.Size.{size};
 ghost use Rattle.rep_model.specs.Calm.{is_calm};
 ghost use Rattle.rep_model.specs.State.{of, with, with_link};
 ghost use Rattle.rep_model.specs.Peers.{is_idle};

@@ -4,7 +4,7 @@ ghost use Rattle.std.specs.List.{list_all};
 ghost use Rattle.rep_types.specs.Edit.{edit_length, repeats};
 ghost use Rattle.rep_model.specs.State.{of};
 ghost use Rattle.rep_model.specs.Peers.{is_standby};
-ghost use Rattle.rep_model.specs.Built.{size};
+ghost use Rattle.rep_model.specs.Size.{size};
 ghost use Rattle.rep_model.specs.Row.{answers};
 ghost use Rattle.rep_model.specs.Calm.{is_calm};
 ghost use Rattle.rep_model.specs.LogEvents.{put_edit, has_family, is_barred, put_row};

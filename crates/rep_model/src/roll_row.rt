@@ -1,6 +1,6 @@
 // The row of a server that rolls its log.
 ghost use Rattle.std.specs.Prelude.{◌≡◌, ◌+◌, ◌-◌, [], ◌^◌, ◌<◌, ◌≤◌, true, find, IfOk, IfSome, length, ◌∷◌, None, if◌then◌else◌};
-ghost use Rattle.rep_model.specs.Built.{size};
+ghost use Rattle.rep_model.specs.Size.{size};
 ghost use Rattle.rep_model.specs.Calm.{is_calm};
 ghost use Rattle.rep_model.specs.Keyed.{replace};
 ghost use Rattle.rep_model.specs.LogEvents.{roll_row};

@@ -1,6 +1,6 @@
 // The rows of regions that split and merge.
 ghost use Rattle.std.specs.Prelude.{◌≡◌, ◌+◌, ◌-◌, [], ◌∷◌, ◌^◌, ◌<◌, ◌≤◌, false, max, IfOk, true};
-ghost use Rattle.rep_model.specs.Built.{size};
+ghost use Rattle.rep_model.specs.Size.{size};
 ghost use Rattle.rep_model.specs.Calm.{is_calm};
 ghost use Rattle.rep_model.specs.Places.{closes_last};
 ghost use Rattle.rep_model.specs.RegionEvents.{hosted, splits, split_row, merge_row};

@@ -1,7 +1,7 @@
 // The row that sweeps a server's lowest log, and who needs a log.
 ghost use Rattle.std.specs.Prelude.{◌≡◌, ◌+◌, ◌-◌, ◌==◌, ◌&&◌, ◌^◌, ◌<◌, ◌≤◌, not, nat_lt, drop, find, min, MatchOption, IfOk, IfSome, true};
 ghost use Rattle.std.specs.List.{list_any};
-ghost use Rattle.rep_model.specs.Built.{size};
+ghost use Rattle.rep_model.specs.Size.{size};
 ghost use Rattle.rep_model.specs.Calm.{is_calm};
 ghost use Rattle.rep_model.specs.Commits.{log_commits, stands_in};
 ghost use Rattle.rep_model.specs.Keyed.{if_some, replace};

@@ -1,6 +1,6 @@
 // The rows of changes of state: transitbegin, transitend and makefolder.
 ghost use Rattle.std.specs.Prelude.{◌≡◌, ◌+◌, ◌^◌, ◌<◌, ◌≤◌, ◌∷◌, [], true, not, Some, None, length, IfOk, OnOk};
-ghost use Rattle.rep_model.specs.Built.{size};
+ghost use Rattle.rep_model.specs.Size.{size};
 ghost use Rattle.rep_model.specs.Calm.{is_calm};
 ghost use Rattle.rep_model.specs.State.{of, with_link};
 ghost use Rattle.rep_model.specs.Peers.{is_absent};

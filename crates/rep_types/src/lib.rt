@@ -18,8 +18,6 @@ mod show;
 mod state;
 mod status;
 mod table;
-#[cfg(test)]
-mod tests;
 mod text;
 mod view;
 

@@ -8,8 +8,6 @@ mod memory;
 mod plans;
 mod records;
 mod store;
-#[cfg(test)]
-mod tests;
 mod tried;
 mod vault;
 

@@ -12,8 +12,6 @@ mod refusal;
 mod regions;
 mod reply;
 mod summary;
-#[cfg(test)]
-mod tests;
 mod words;
 
 pub use drains::drain_line;

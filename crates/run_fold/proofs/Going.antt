@@ -5,7 +5,7 @@ use Rattle.rep_types.specs.declared.reply.Reply.{Reply}
 use Rattle.rep_types.specs.declared.record.Record.{Record}
 use Rattle.rep_model.specs.declared.machine.Machine.{Machine}
 use Rattle.rep_model.specs.State.{opening}
-use Rattle.rep_model.specs.Built.{size}
+use Rattle.rep_model.specs.Size.{size}
 use Rattle.rep_model.specs.Row.{Row, answers}
 use Rattle.rep_model.specs.Rows.{row}
 use Rattle.rep_model.specs.Runs.{Counts, no_faults, counts_of, after, IsNext, state_from, counts_from, LegalFrom, state_of, faults_of, IsLegal}

@@ -1,7 +1,7 @@
 // One record.
 ghost use Rattle.std.specs.Prelude.{◌≡◌, ◌+◌, ◌-◌, ◌^◌, ◌<◌, ◌≤◌, true, IfOk};
 ghost use Rattle.std.specs.Bool.{Decides};
-ghost use Rattle.rep_model.specs.Built.{size};
+ghost use Rattle.rep_model.specs.Size.{size};
 ghost use Rattle.rep_model.specs.Runs.{IsNext, after};
 ghost use Rattle.rep_model.specs.Words.{is_worded};
 ghost use Rattle.run_fold.specs.Faults.{counts, IsCounted};

@@ -5,8 +5,6 @@
 
 mod queues;
 mod regions;
-#[cfg(test)]
-mod tests;
 mod view;
 
 pub use view::print_view;

@@ -3,10 +3,6 @@
 
 mod asked;
 mod perform;
-#[cfg(test)]
-mod rows;
 mod runner;
-#[cfg(test)]
-mod tests;
 
 pub use runner::run;

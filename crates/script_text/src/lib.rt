@@ -17,8 +17,6 @@ mod parser;
 mod put;
 mod read;
 mod rule;
-#[cfg(test)]
-mod tests;
 mod words;
 
 pub use command::{Command, Commands, Input};

@@ -36,6 +36,3 @@ mod laws;
 pub use decode::{Decoded, Decoder, decode_frame, frame_length};
 pub use encode::{encode_frame, entry_length, kind_length};
 pub use laws::{pieces_agree, spellings_are_apart};
-
-#[cfg(test)]
-mod tests;

@@ -1,5 +1,5 @@
 use Rattle.std.proofs.Common.{◌≤◌, take}
-use Rattle.rep_model.specs.Built.{size}
+use Rattle.rep_model.specs.Size.{size}
 use Rattle.run_fold.specs.Faults.{counts}
 use Rattle.run_fold.proofs.Going.{IsGoing}
 use Rattle.run_fold.proofs.journal.fold.Given as goal

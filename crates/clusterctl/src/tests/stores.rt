@@ -1,7 +1,10 @@
 ghost use Rattle.std.specs.Prelude.{◌≡◌, OnOk};
 
-use super::*;
 use rep_types::{Bytes, Call, Text, Texts};
+use rep_vault::{
+    Change, MemVault, Tried, TriedSeal, Vault, VaultError, try_append, try_create, try_list,
+    try_make, try_put, try_read, try_remove, try_rename, try_seal, try_sync,
+};
 use std::alloc::Global;
 use std::test::Fail;
 
@@ -144,7 +147,7 @@ fn done(tried: Tried) -> Result<(), &'static str>
 }
 
 #[test]
-#[tactic(auto, unfolding(crate::specs::Contents::set_file, crate::specs::Contents::with_folder))]
+#[tactic(auto, unfolding(rep_vault::specs::Contents::set_file, rep_vault::specs::Contents::with_folder))]
 fn tried_calls_on_files_are_done(rt: HostRuntime) -> Result<(), Fail> {
     let alloc = rt.alloc();
     let mut vault = MemVault::new(alloc)?;
@@ -159,7 +162,7 @@ fn tried_calls_on_files_are_done(rt: HostRuntime) -> Result<(), Fail> {
 }
 
 #[test]
-#[tactic(auto, unfolding(crate::specs::Contents::set_file, crate::specs::Contents::with_records, crate::specs::Contents::renamed))]
+#[tactic(auto, unfolding(rep_vault::specs::Contents::set_file, rep_vault::specs::Contents::with_records, rep_vault::specs::Contents::renamed))]
 fn tried_calls_on_folders_are_done(rt: HostRuntime) -> Result<(), Fail> {
     let alloc = rt.alloc();
     let mut vault = MemVault::new(alloc)?;

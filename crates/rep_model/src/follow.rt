@@ -3,8 +3,7 @@ ghost use Rattle.std.specs.Prelude.{◌≡◌, ◌+◌, ◌-◌, ◌^◌, ◌<�
 ghost use Rattle.rep_model.specs.Calm.{is_calm};
 ghost use Rattle.rep_model.specs.Row.{answers};
 ghost use Rattle.rep_model.specs.Rows.{row};
-ghost use Rattle.rep_model.specs.Runs.{Tells, no_faults};
-ghost use Rattle.rep_model.specs.Built.{is_built, size};
+ghost use Rattle.rep_model.specs.Size.{size};
 ghost use Rattle.rep_model.specs.Words.{is_worded};
 
 use crate::Machine;
@@ -103,17 +102,5 @@ impl Machine {
             Event::Replay { cluster } => self.replay(alloc, *cluster, said),
             Event::PromoteEnd { cluster } => self.promote_end(alloc, *cluster, said),
         }
-    }
-
-    /// The event's row where no store fails: its reply, and the state after it.
-    pub fn step(&mut self, alloc: Global, event: &Event) -> Result<Reply, Memory>
-        requires built { is_built event.now ≡ true }
-        requires worded { is_worded event.now ≡ true }
-        requires room { size self.old < 2 ^ 32 - 1 }
-        ensures row { IfOk result (λ reply. answers reply self.new ≡ row event.now reply self.old) }
-        ensures no_fault { IfOk result (λ reply. Tells reply no_faults no_faults) }
-        ensures grows { IfOk result (λ _. size self.new ≤ size self.old + 1) }
-    {
-        self.follow(alloc, event, &Reply::Done)
     }
 }

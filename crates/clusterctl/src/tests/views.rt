@@ -1,6 +1,6 @@
-use super::*;
 use pair_core::Pair;
 use rep_vault::MemVault;
+use script_lines::print_view;
 use script_text::Command;
 use std::alloc::Global;
 use std::test::Fail;

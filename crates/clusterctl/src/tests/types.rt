@@ -1,4 +1,4 @@
-use crate::{
+use rep_types::{
     Bytes, Cell, CellKind, CellView, Cells, Cluster, Duplicate, Edit, EditError, Entry, EntryKind,
     Event, Items, Key, KeyRange, Name, PeerId, Record, RegionId, Reply, ServerId, Status, Text,
     TextError,

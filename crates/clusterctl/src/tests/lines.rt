@@ -1,8 +1,10 @@
-use super::*;
 use rep_types::{
     Bytes, Call, Cause, CellView, Cluster, DrainEnd, Event, Items, Key, Name, PeerId, Phase,
     PlaceOf, QueueView, Record, Refusal, RegionId, RegionLine, Reply, ServerId, SideLine,
     StatusLine, StuckCause, SyncState, Tickets, Views,
+};
+use report_text::{
+    drain_line, print_lines, print_record, queue_line, region_line, status_line, views,
 };
 use std::alloc::Global;
 use std::test::Fail;

@@ -1,7 +1,9 @@
-use super::*;
 use rep_types::{Bytes, CellKind, Cluster, EntryKind};
 use std::alloc::Global;
 use std::test::Fail;
+use wal_entry::{
+    Decoded, decode_frame, encode_frame, frame_length, pieces_agree, spellings_are_apart,
+};
 
 /// A put of `v` at timestamp 10 to row `r1`, column `f:q` of table `t`: sequence id 2 of region 1,
 /// consumed by cluster a.

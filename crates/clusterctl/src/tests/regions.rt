@@ -1,4 +1,4 @@
-use super::*;
+use region_meta::{MetaError, RegionMap};
 use rep_types::{Families, Family, Items, Key, Name, PlaceOf, RegionId, ServerId};
 use std::alloc::Global;
 use std::test::Fail;

@@ -1,10 +1,10 @@
 ghost use Rattle.std.specs.Prelude.{◌≡◌, ◌≤◌};
 
-use super::*;
-use crate::rows::{FAILED_APPEND, FAILED_SYNC, FULL_LOG, LOST, MOVED, Row, TORN};
+use crate::tests::rows::{FAILED_APPEND, FAILED_SYNC, FULL_LOG, LOST, MOVED, Row, TORN};
 use rep_io::{MemSink, MemSource};
 use rep_types::{Argv, Bytes, Items, Status, Text, Words};
 use rep_vault::{MemVault, Outcome};
+use script_runner::run;
 use std::alloc::Global;
 use std::test::Fail;
 

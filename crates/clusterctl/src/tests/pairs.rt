@@ -4,7 +4,7 @@ ghost use Rattle.rep_vault.specs.Memory.{contents_of};
 ghost use Rattle.rep_model.specs.Words.{is_paired, is_worded, are_families, are_names, are_cells};
 ghost use Rattle.pair_core.specs.Served.{is_served};
 
-use super::*;
+use pair_core::Pair;
 use rep_types::{
     Bytes, Call, Cell, CellKind, Cells, Cluster, Event, Families, Family, Items, Key, Kind, Name,
     Names, PeerId, RegionId, ServerId,
