@@ -1,4 +1,4 @@
-ghost use Rattle.std.specs.Prelude.{◌≡◌, ◌≢◌, ◌++◌, ◌∷◌, [], None, Some, Ok, Err, ℕ, List, IfOk, IfErr, OnOk, string_bytes, All};
+ghost use Rattle.std.specs.Prelude.{◌≡◌, ◌≢◌, ◌++◌, ◌∷◌, [], None, Some, Ok, Err, ℕ, List, IfOk, IfErr, OnOk, All};
 ghost use Rattle.std.specs.List.{filter};
 ghost use Rattle.rep_types.specs.declared.entry.Entry.{Entry};
 ghost use Rattle.rep_vault.specs.Contents.{File};
@@ -11,19 +11,9 @@ ghost use Rattle.log_split.specs.Told.{IfBad, IfFault, Tells, UnlessStopped};
 use crate::SplitError;
 use rep_types::{Bytes, Call, Entries, Entry, Memory, RegionId, ServerId};
 use rep_vault::{Tried, Vault, try_read};
-use std::alloc::{AllocError, Global};
+use std::alloc::Global;
 use wal_reader::{LogReader, Next};
-
-/// The folder of logs.
-const FOLDER: &str = "wal";
-
-#[tactic(auto, unfolding(wal_roll::specs::Log::log_name))]
-pub fn file_name(alloc: Global, server: ServerId, log: u32) -> Result<String, AllocError>
-    ensures { IfOk result (λ name. string_bytes name ≡ log_name server log) }
-{
-    let server = server.number();
-    format!(in alloc; "{server}.{log}")
-}
+use wal_roll::{FOLDER, file_name};
 
 // A reader that was fed with a whole log, which is read once.
 fn fed_with<V: Vault>(

@@ -4,14 +4,11 @@ ghost use Rattle.wal_entry.specs.Framed.{IsFramed};
 ghost use Rattle.wal_roll.specs.Log.{wal, log_name, Stands};
 
 use super::*;
-use crate::split::file_name;
 use rep_types::{Bytes, Call, Entry, EntryKind, RegionId, ServerId};
 use rep_vault::{MemVault, Vault};
 use std::alloc::Global;
 use std::test::Fail;
-use wal_roll::LogWriter;
-
-const WAL: &str = "wal";
+use wal_roll::{FOLDER, LogWriter, file_name};
 
 /// A frame of 32 bytes up to its kind, which no entry has.
 const BAD: [u8; 5] = [0, 0, 0, 0x20, 9];
@@ -31,7 +28,7 @@ fn start(alloc: Global, vault: &mut MemVault, log: u32) -> Result<LogWriter, Fai
 {
     let server = server()?;
     let name = file_name(alloc, server, log)?;
-    vault.create(WAL, name.as_str())?;
+    vault.create(FOLDER, name.as_str())?;
     Ok(LogWriter::create(alloc, vault, server, log)?)
 }
 
@@ -81,7 +78,7 @@ fn stands(alloc: Global, vault: &mut MemVault, log: u32) -> Result<(), Fail>
     let mut out = Bytes::new(alloc);
     let server = server()?;
     let name = file_name(alloc, server, log)?;
-    vault.read(WAL, name.as_str(), 0, 0, &mut out)?;
+    vault.read(FOLDER, name.as_str(), 0, 0, &mut out)?;
     Ok(())
 }
 
@@ -147,8 +144,8 @@ fn bad(alloc: Global, vault: &mut MemVault) -> Result<Option<(u32, u64, u8)>, Fa
 fn the_second_log_is_bad(rt: HostRuntime) -> Result<(), Fail> {
     let mut vault = MemVault::new(rt.alloc())?;
     assert_eq!(rt; write(rt.alloc(), &mut vault, 1, &[1])?, 2);
-    vault.create(WAL, "3.2")?;
-    vault.append(WAL, "3.2", &BAD)?;
+    vault.create(FOLDER, "3.2")?;
+    vault.append(FOLDER, "3.2", &BAD)?;
     assert_eq!(rt; bad(rt.alloc(), &mut vault)?, Some((2, 4, 2)));
     Ok(())
 }

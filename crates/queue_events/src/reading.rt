@@ -1,10 +1,9 @@
 // The entries of a batch are read from the files of logs.
-ghost use Rattle.std.specs.Prelude.{◌≡◌, ◌≤◌, ◌-◌, ℕ, true, take, drop, IfOk, OnOk, All, string_bytes};
+ghost use Rattle.std.specs.Prelude.{◌≡◌, ◌≤◌, ◌-◌, ℕ, true, take, drop, IfOk, OnOk, All};
 ghost use Rattle.rep_vault.specs.Contents.{Contents};
 ghost use Rattle.rep_types.specs.declared.entry.Entry.{Entry};
 ghost use Rattle.wal_entry.specs.Framed.{HasFrame};
 ghost use Rattle.wal_entry.specs.Spelling.{spelling};
-ghost use Rattle.wal_roll.specs.Log.{log_name};
 ghost use Rattle.queue_events.specs.Reading.{IsFrameAt, HasFrameAt, AreFramesAt, Covers, IsPiece, ReadTells};
 ghost use Rattle.queue_events.specs.declared.reading.ReadError.TheVariants.{Memory as OutOfMemory};
 
@@ -13,9 +12,7 @@ use rep_types::{Bytes, Entries, Entry, Memory, ServerId};
 use rep_vault::{Tried, Vault, try_read};
 use std::alloc::{AllocError, Global};
 use wal_entry::{Decoded, decode_frame};
-
-/// The folder of logs.
-const FOLDER: &str = "wal";
+use wal_roll::{FOLDER, file_name};
 
 /// Why entries weren't read: a call of the store failed, with its count of faults after it, or memory ran out.
 #[derive(Clone, Copy)]
@@ -38,14 +35,6 @@ impl From<AllocError> for ReadError {
     fn from(_: AllocError) -> ReadError {
         ReadError::Memory
     }
-}
-
-#[tactic(auto, unfolding(wal_roll::specs::Log::log_name))]
-fn file_name(alloc: Global, server: ServerId, log: u32) -> Result<String, AllocError>
-    ensures { IfOk result (λ name. string_bytes name ≡ log_name server log) }
-{
-    let server = server.number();
-    format!(in alloc; "{server}.{log}")
 }
 
 // The entry of a whole frame.

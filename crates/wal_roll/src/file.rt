@@ -11,6 +11,7 @@ use std::alloc::{AllocError, Global};
 /// The folder of logs.
 pub const FOLDER: &str = "wal";
 
+/// The name of a log's file: its server's number and its own, in decimal, with a full stop between them.
 #[tactic(auto, unfolding(crate::specs::Log::log_name))]
 pub fn file_name(alloc: Global, server: ServerId, number: u32) -> Result<String, AllocError>
     ensures { IfOk result (λ name. string_bytes name ≡ log_name server number) }

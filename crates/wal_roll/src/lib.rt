@@ -13,6 +13,7 @@ mod lengths;
 mod writer;
 
 pub use error::LogError;
+pub use file::{FOLDER, file_name};
 pub use laws::log_names_are_apart;
 pub use writer::LogWriter;
 
