@@ -1,13 +1,7 @@
-// The tests of the crates below, a module for each. They stand here, and not beside the code, since a crate with tests is
-// proved twice.
+// Tests of whole runs, and of the crates below that only they need: `pairs` of `pair_core`, `views` of `script_lines`, `runs` of `script_runner`
+// with the rows in `rows`. They stand here, and not beside the code, since a crate with tests is proved twice.
 
-mod frames;
-mod lines;
 mod pairs;
-mod regions;
 mod rows;
 mod runs;
-mod scripts;
-mod stores;
-mod types;
 mod views;

@@ -2,7 +2,7 @@ use Rattle.std.proofs.Common.{refl}
 use Rattle.rep_vault.specs.Contents.{empty_file}
 use Rattle.rep_vault.specs.Calls.{longer}
 use Rattle.rep_vault.proofs.Frames.{now_open}
-use Rattle.clusterctl.proofs.tests.stores.tried_calls_on_files_are_done.Goals as goal
+use Rattle.crate_tests.proofs.stores.tried_calls_on_files_are_done.Goals as goal
 
 pub try_append-requires : goal.try_append-requires
 try_append-requires g c =
