@@ -32,15 +32,17 @@ AreFramesAt c s [] (e ∷ es) = ⊥
 AreFramesAt c s (k ∷ ks) [] = ⊥
 AreFramesAt c s (k ∷ ks) (e ∷ es) = IsFrameAt c s k e × AreFramesAt c s ks es
 
--- a piece of a file has the bytes of the frame
-pub record Covers (p : Piece) (k : Kept) : Type 0 where
-  pub log_is : k.log ≡ p.log
-  pub low : p.from ≤ k.offset
-  pub high : k.offset - p.from + k.length ≤ p.size
+-- the entry's frame is the next of the piece, which has all of it
+pub record IsNext (p : Piece) (k : Kept) : Type 0 where
+  pub log_is : k.log ≡ p.reader.place.log
+  pub offset_is : k.offset ≡ p.reader.place.offset
+  pub whole : k.offset + k.length ≤ p.end
 
--- where the file stands, these are its bytes
+-- where the file stands, the bytes left are its bytes from the reader's place to the end
 abbrev pub IsPiece : Contents → ℕ → Piece → Type 0
-IsPiece c s p = (file : File) → c.files wal (log_name s p.log) ≡ Some file → p.bytes ≡ part p.from p.size file
+IsPiece c s p =
+    let from : ℕ = p.reader.place.offset in
+    (file : File) → c.files wal (log_name s p.reader.place.log) ≡ Some file → p.reader.left ≡ part from (p.end - from) file
 
 -- a fact of the fault that is told
 abbrev pub IfFault : {T : Type 0} → Result T ReadError → (ℕ → Type 0) → Type 0

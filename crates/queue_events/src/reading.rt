@@ -1,17 +1,19 @@
 // The entries of a batch are read from the files of logs.
-ghost use Rattle.std.specs.Prelude.{◌≡◌, ◌≤◌, ◌-◌, ℕ, true, take, drop, IfOk, OnOk, All};
+ghost use Rattle.std.specs.Prelude.{◌≡◌, ◌≤◌, ◌+◌, ◌++◌, ℕ, List, true, length, IfOk, IfSome, OnOk, All};
 ghost use Rattle.rep_vault.specs.Contents.{Contents};
 ghost use Rattle.rep_types.specs.declared.entry.Entry.{Entry};
 ghost use Rattle.wal_entry.specs.Framed.{HasFrame};
+ghost use Rattle.wal_entry.specs.Length.{frame_length_of};
 ghost use Rattle.wal_entry.specs.Spelling.{spelling};
-ghost use Rattle.queue_events.specs.Reading.{IsFrameAt, HasFrameAt, AreFramesAt, Covers, IsPiece, ReadTells};
+ghost use Rattle.wal_reader.specs.Reader.{starting, fed, past};
+ghost use Rattle.queue_events.specs.Reading.{IsFrameAt, HasFrameAt, AreFramesAt, IsNext, IsPiece, ReadTells};
 ghost use Rattle.queue_events.specs.declared.reading.ReadError.TheVariants.{Memory as OutOfMemory};
 
 use cluster_core::Kept;
 use rep_types::{Bytes, Entries, Entry, Memory, ServerId};
 use rep_vault::{Tried, Vault, try_read};
 use std::alloc::{AllocError, Global};
-use wal_entry::{Decoded, decode_frame};
+use wal_reader::{LogReader, Next, ReaderError};
 use wal_roll::{FOLDER, file_name};
 
 /// Why entries weren't read: a call of the store failed, with its count of faults after it, or memory ran out.
@@ -37,75 +39,71 @@ impl From<AllocError> for ReadError {
     }
 }
 
-// The entry of a whole frame.
-fn frame_entry(alloc: Global, bytes: &[u8]) -> Result<Entry, Memory>
-    requires { (e : Entry) × HasFrame e × (bytes.now ≡ spelling e) }
-    ensures { IfOk result (λ e. HasFrame e × (bytes.now ≡ spelling e)) }
-{
-    match decode_frame(alloc, bytes)? {
-        Decoded::Frame { entry, .. } => Ok(entry),
-        Decoded::Bad { .. } => unreachable!(),
-        Decoded::Short => unreachable!(),
-    }
-}
-
-/// Bytes of the file of a log, from a place on.
+/// A reader of a log, and the place in the log after the bytes that it is fed with.
 #[derive(Drop)]
 struct Piece {
-    log: u32,
-    from: u64,
-    size: u64,
-    bytes: Bytes,
+    reader: LogReader,
+    end: u64,
 }
 
-// Whether the entry's frame stands in the piece.
-fn covers(piece: &Piece, kept: &Kept) -> bool
-    ensures { result ≡ true → Covers piece.now kept.now }
+// Whether the entry's frame is the next one, and stands in the piece whole.
+fn is_next(piece: &Piece, kept: &Kept) -> bool
+    ensures { result ≡ true → IsNext piece.now kept.now }
 {
-    if kept.log != piece.log || kept.offset < piece.from {
+    let place = piece.reader.position();
+    if kept.log != place.log || kept.offset != place.offset {
         return false;
     }
-    let gap = kept.offset - piece.from;
-    gap <= piece.size && kept.length <= piece.size - gap
+    kept.offset <= piece.end && kept.length <= piece.end - kept.offset
 }
 
-// How many bytes the entries have that stand one behind the other in one log, from the first on.
-fn run_size(first: &Kept, rest: &[Kept]) -> u64
-    ensures { first.now.length ≤ result }
+// Where the frames end that stand one behind the other in one log, from the first on. None where the first ends beyond all
+// places of 64 bits.
+fn run_end(first: &Kept, rest: &[Kept]) -> Option<u64>
+    ensures { IfSome result (λ end. first.now.offset + first.now.length ≤ end) }
 {
-    let mut size = first.length;
+    let mut end = first.offset.checked_add(first.length)?;
     for next in rest {
-        if next.log != first.log || first.offset.saturating_add(size) != next.offset {
-            return size;
+        if next.log != first.log || next.offset != end {
+            return Some(end);
         }
-        size = size.saturating_add(next.length);
+        end = end.saturating_add(next.length);
     }
-    size
+    Some(end)
 }
 
-// So many bytes from an entry's frame on.
+// A reader from the entry's place on, fed with the bytes from there to the end.
+fn piece_of(alloc: Global, kept: &Kept, bytes: &[u8], end: u64) -> Result<Piece, Memory>
+    requires { kept.now.offset + length bytes.now ≤ end }
+    ensures { IfOk result (λ p. p ≡ record {
+      reader = fed bytes.now (starting kept.now.log kept.now.offset);
+      end = end;
+    }) }
+{
+    let mut reader = LogReader::new(alloc, kept.log, kept.offset);
+    reader.feed(bytes)?;
+    Ok(Piece { reader, end })
+}
+
+// The bytes of a log from an entry's frame to the end of its run.
 fn read_piece<V: Vault>(
     alloc: Global,
     own: &mut V,
     server: ServerId,
     kept: &Kept,
-    size: u64,
+    end: u64,
 ) -> Result<Piece, ReadError>
     requires there { HasFrameAt (V.contents own.old) server kept.now }
-    requires whole { kept.now.length ≤ size }
-    ensures piece { IfOk result (λ p. IsPiece (V.contents own.old) server p × Covers p kept.now) }
+    requires whole { kept.now.offset + kept.now.length ≤ end }
+    ensures piece { IfOk result (λ p. IsPiece (V.contents own.old) server p × IsNext p kept.now) }
     ensures tells { ReadTells (V.tally own.old) (V.tally own.new) result }
     ensures same { V.contents own.new ≡ V.contents own.old }
 {
     let name = file_name(alloc, server, kept.log)?;
     let mut bytes = Bytes::new(alloc);
+    let size = end - kept.offset;
     match try_read(own, FOLDER, name.as_str(), kept.offset, size, &mut bytes) {
-        Tried::Done => Ok(Piece {
-            log: kept.log,
-            from: kept.offset,
-            size,
-            bytes,
-        }),
+        Tried::Done => Ok(piece_of(alloc, kept, bytes.as_slice(), end)?),
         Tried::NotDone => Err(ReadError::StoreFault {
             count: own.faults(),
         }),
@@ -113,7 +111,8 @@ fn read_piece<V: Vault>(
     }
 }
 
-// The piece has the entry's frame. If it hadn't, it is read anew, with the frames behind that one.
+// The entry's frame is the next of the piece. If it wasn't, a piece is read anew, with the frames behind that one. A frame that
+// ends beyond all places of 64 bits, which no log has, is answered by Memory.
 fn turn<V: Vault>(
     alloc: Global,
     own: &mut V,
@@ -124,40 +123,32 @@ fn turn<V: Vault>(
 ) -> Result<(), ReadError>
     requires there { HasFrameAt (V.contents own.old) server kept.now }
     requires piece { IsPiece (V.contents own.old) server piece.old }
-    ensures piece { OnOk result (IsPiece (V.contents own.old) server piece.new × Covers piece.new kept.now) }
+    ensures piece { OnOk result (IsPiece (V.contents own.old) server piece.new × IsNext piece.new kept.now) }
     ensures tells { ReadTells (V.tally own.old) (V.tally own.new) result }
     ensures same { V.contents own.new ≡ V.contents own.old }
 {
-    if covers(piece, kept) {
+    if is_next(piece, kept) {
         return Ok(());
     }
-    *piece = read_piece(alloc, own, server, kept, run_size(kept, rest))?;
+    let Some(end) = run_end(kept, rest) else {
+        return Err(ReadError::Memory);
+    };
+    *piece = read_piece(alloc, own, server, kept, end)?;
     Ok(())
 }
 
-fn part(bytes: &[u8], from: u64, size: u64) -> &[u8]
-    ensures { result.now ≡ take size (drop from bytes.now) }
+// The reader's next entry, where a whole frame is next.
+fn next_entry(reader: &mut LogReader) -> Result<Entry, Memory>
+    requires { (e : Entry) × (rest : List ℕ) × HasFrame e × (reader.old.left ≡ spelling e ++ rest) }
+    ensures given { (e : Entry) (rest : List ℕ) → HasFrame e → reader.old.left ≡ spelling e ++ rest → IfOk result (λ got. got ≡ e) }
+    ensures past { IfOk result (λ got. reader.new ≡ past (frame_length_of got) reader.old) }
 {
-    let start = from.min(bytes.len() as u64) as usize;
-    let rest = &bytes[start..];
-    let end = size.min(rest.len() as u64) as usize;
-    &rest[..end]
-}
-
-// The entry of a frame in the piece.
-fn piece_entry(alloc: Global, piece: &Piece, kept: &Kept) -> Result<Entry, Memory>
-    requires covers { Covers piece.now kept.now }
-    requires there { (e : Entry) × HasFrame e × (take kept.now.length (drop (kept.now.offset - piece.now.from) piece.now.bytes) ≡ spelling e) }
-    ensures { IfOk result (λ e. HasFrame e × (take kept.now.length (drop (kept.now.offset - piece.now.from) piece.now.bytes) ≡ spelling e)) }
-{
-    frame_entry(
-        alloc,
-        part(
-            piece.bytes.as_slice(),
-            kept.offset - piece.from,
-            kept.length,
-        ),
-    )
+    match reader.next() {
+        Ok(Next::Entry(entry)) => Ok(entry),
+        Ok(Next::Short) => unreachable!(),
+        Err(ReaderError::BadFrame { .. }) => unreachable!(),
+        Err(ReaderError::Memory) => Err(Memory),
+    }
 }
 
 // One entry of a server's logs.
@@ -177,7 +168,7 @@ fn read_entry<V: Vault>(
     ensures same { V.contents own.new ≡ V.contents own.old }
 {
     turn(alloc, own, server, piece, kept, rest)?;
-    Ok(piece_entry(alloc, piece, kept)?)
+    Ok(next_entry(&mut piece.reader)?)
 }
 
 // Nothing of a log.
@@ -185,15 +176,13 @@ fn no_piece(alloc: Global) -> Piece
     ensures { (c : Contents) (s : ℕ) → IsPiece c s result }
 {
     Piece {
-        log: 0,
-        from: 0,
-        size: 0,
-        bytes: Bytes::new(alloc),
+        reader: LogReader::new(alloc, 0, 0),
+        end: 0,
     }
 }
 
-/// The entries at these places of a server's logs, in order. Frames that stand one behind the other are read by one call, and
-/// no more of the files is read.
+/// The entries at these places of a server's logs, in order, as a reader of the logs gives them. Frames that stand one behind
+/// the other are read by one call, and no more of the files is read.
 pub fn read_entries<V: Vault>(
     alloc: Global,
     own: &mut V,
