@@ -1,10 +1,12 @@
--- What memory says of a region is what the state says.
-use Rattle.std.proofs.Common.{ℕ, suc, ◌-◌, ◌≡◌, find, slice_get, Some, None, ap, sym, ◌∙◌, arith, eqb-true}
+-- What memory says of a region, and of how many there are, is what the state says.
+use Rattle.std.proofs.Common.{ℕ, suc, ◌-◌, ◌<◌, ◌≤◌, ◌≡◌, find, length, slice_get, Some, None, ap, sym, ◌∙◌, arith, eqb-true}
 use Rattle.std.specs.Option.{option_map}
-use Rattle.std.proofs.lemmas.Option.{none-some, same_Some}
+use Rattle.std.proofs.lemmas.List.{length-map}
+use Rattle.std.proofs.lemmas.Option.{none-some, same_Some, slice_get_past}
 use Rattle.rep_types.specs.declared.ids.Cluster.{Cluster}
 use Rattle.rep_types.specs.declared.view.RegionLine.{RegionLine}
 use Rattle.rep_vault.specs.Contents.{Contents}
+use Rattle.region_meta.specs.Regions.{Map}
 use Rattle.region_meta.specs.declared.region.Region.{Region}
 use Rattle.rep_model.specs.State.{of, is_region}
 use Rattle.rep_model.specs.declared.machine.Hosted.{Hosted}
@@ -23,6 +25,9 @@ use Rattle.cluster_core.proofs.Reaching.{orderly}
 use Rattle.cluster_core.proofs.Tracing.{number_at}
 use Rattle.core_views.specs.Memory.{traced_view}
 use Rattle.core_views.specs.Views.{region_view, region_seen}
+
+pub counted : (own : Cluster) (c : Contents) (core : ClusterCore) (side : Side) → Stands own c core side → (count : ℕ) → count ≡ length core.map.regions → count ≡ length side.regions
+counted own c core side stands count e = e ∙ (ap (λ (k : Map). length k.regions) stands.regions ∙ length-map side.regions map_region)
 
 module _ (own : Cluster) (c : Contents) (core : ClusterCore) (m : Machine) (reached : Reached m) (stands : Stands own c core (of own m)) (n : ℕ) where
   abbrev side : Side
@@ -53,3 +58,11 @@ module _ (own : Cluster) (c : Contents) (core : ClusterCore) (m : Machine) (reac
       let same : t ≡ trace_of side.commits side.servers h.0 = same_Some t (trace_of side.commits side.servers h.0) (f ∙ traced h.0 h.1) in
       ap (λ (v : RegionLine). Some v) (is ∙ (ap (λ (q : Region). traced_view own q t) h.2 ∙ ap (λ (q : Trace). traced_view own (map_region h.0) q) same))
       ∙ sym (ap (option_map (λ (g : Hosted). region_view own g side)) h.1)
+
+  -- no region has a number above how many there are
+  pub none_above : (count : ℕ) → count ≡ length core.map.regions → count < n → region_seen own n side ≡ None
+  none_above count e above =
+      let same : count ≡ length side.regions = counted own c core side stands count e in
+      let next : suc (n - 1) ≡ n = omega (arith, above) in
+      let past : length side.regions ≤ n - 1 = omega (arith, same, above) in
+      ap (option_map (λ (h : Hosted). region_view own h side)) (ap (λ k. find (is_region k) side.regions) (sym next) ∙ (slots (n - 1) ∙ slice_get_past side.regions (n - 1) past))

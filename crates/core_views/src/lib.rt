@@ -1,5 +1,5 @@
-//! What is seen of one cluster's core, without a store call: a queue, a region, and its part of the
-//! status line.
+//! What is seen of one cluster's core, without a store call: a queue, a region, how many regions
+//! there are, and its part of the status line.
 #![tactic(auto)]
 
 mod queues;
@@ -7,5 +7,5 @@ mod regions;
 mod sides;
 
 pub use queues::queue_view;
-pub use regions::region_line;
+pub use regions::{region_count, region_line};
 pub use sides::side_line;

@@ -1,5 +1,5 @@
 // What is seen of a region.
-ghost use Rattle.std.specs.Prelude.{◌≡◌, IfOk};
+ghost use Rattle.std.specs.Prelude.{◌≡◌, ℕ, ◌<◌, None, length, IfOk};
 ghost use Rattle.rep_vault.specs.Contents.{Contents};
 ghost use Rattle.rep_model.specs.State.{of};
 ghost use Rattle.rep_model.specs.declared.machine.Machine.{Machine};
@@ -61,4 +61,14 @@ pub fn region_line(
             Some(trace) => Ok(Some(traced_view(alloc, core.own, found, trace)?)),
         },
     }
+}
+
+/// How many regions there are, those that are Gone too: they have the numbers from 1 on.
+pub fn region_count(core: &ClusterCore) -> usize
+    ensures count { (c : Contents) (m : Machine) → Reached m → Stands core.now.own c core.now (of core.now.own m)
+        → result ≡ length (of core.now.own m).regions }
+    ensures above { (c : Contents) (m : Machine) → Reached m → Stands core.now.own c core.now (of core.now.own m)
+        → (r : ℕ) → result < r → region_seen core.now.own r (of core.now.own m) ≡ None }
+{
+    core.map.regions().len()
 }

@@ -1,5 +1,5 @@
 // What is seen of a pair, without a store call.
-ghost use Rattle.std.specs.Prelude.{◌≡◌, false, true, length, IfOk};
+ghost use Rattle.std.specs.Prelude.{◌≡◌, ℕ, ◌<◌, false, true, None, length, IfOk};
 ghost use Rattle.rep_model.specs.State.{of};
 ghost use Rattle.rep_model.specs.Words.{is_paired};
 ghost use Rattle.rep_model.specs.Runs.{state_of};
@@ -10,7 +10,7 @@ ghost use Rattle.pair_core.specs.Views.{status_seen};
 use crate::pair::Pair;
 use crate::sides::Sides;
 use cluster_core::ClusterCore;
-use core_views::{queue_view, region_line, side_line};
+use core_views::{queue_view, region_count, region_line, side_line};
 use rep_types::{Cluster, Memory, PeerId, QueueView, RegionId, RegionLine, ServerId, StatusLine};
 use rep_vault::Vault;
 use std::alloc::Global;
@@ -50,6 +50,15 @@ impl<V: Vault> Pair<V> {
         ensures seen { self.now.spent ≡ false → IfOk result (λ line. line ≡ region_seen cluster region (of cluster (state_of self.now.journal))) }
     {
         region_line(core_of(&self.sides, cluster), alloc, region)
+    }
+
+    /// How many regions a cluster has, those that are Gone too: they have the numbers from 1 on.
+    pub fn region_count(&self, cluster: Cluster) -> usize
+        requires paired { is_paired cluster ≡ true }
+        ensures count { self.now.spent ≡ false → result ≡ length (of cluster (state_of self.now.journal)).regions }
+        ensures above { self.now.spent ≡ false → (r : ℕ) → result < r → region_seen cluster r (of cluster (state_of self.now.journal)) ≡ None }
+    {
+        region_count(core_of(&self.sides, cluster))
     }
 
     /// Both clusters, the number of flights, and how many records there are. It costs a search for

@@ -87,10 +87,13 @@ pub region_some : (c : Cluster) (m : Machine) (n : ℕ) (v : RegionLine) → Som
 unfolding given
 region_some c m n v e = ap (λ (o : Option RegionLine). given o [] region_text) e ∙ by_region c m (region_of c n m)
 
-pub region_none : (c : Cluster) (m : Machine) (n : ℕ) (out : List ℕ) → None ≡ seen.region_seen c n (of c m) → out ≡ out ++ numbered_text c m n
+-- what isn't there has no line
+pub region_past : (c : Cluster) (m : Machine) (n : ℕ) → seen.region_seen c n (of c m) ≡ None → numbered_text c m n ≡ []
 unfolding given
-region_none c m n out e =
-    sym (append-nil out) ∙ ap (λ (t : List ℕ). out ++ t) (ap (λ (o : Option RegionLine). given o [] region_text) e ∙ by_region c m (region_of c n m))
+region_past c m n e = sym (by_region c m (region_of c n m)) ∙ ap (λ (o : Option RegionLine). given o [] region_text) e
+
+pub region_none : (c : Cluster) (m : Machine) (n : ℕ) (out : List ℕ) → None ≡ seen.region_seen c n (of c m) → out ≡ out ++ numbered_text c m n
+region_none c m n out e = sym (append-nil out) ∙ ap (λ (t : List ℕ). out ++ t) (sym (region_past c m n (sym e)))
 
 -- ---- the status
 

@@ -36,7 +36,7 @@ fn numbered_line<V: Vault>(
     }
 }
 
-/// The lines of the regions, by number.
+/// The lines of the regions, by number. It looks for those alone that are there.
 pub fn region_lines<V: Vault>(
     alloc: Global,
     cluster: Cluster,
@@ -46,7 +46,8 @@ pub fn region_lines<V: Vault>(
     requires paired { is_paired cluster ≡ true }
     ensures text { pair.now.spent ≡ false → OnOk result (out.new.items ≡ out.old.items ++ regions_text cluster (state_of pair.now.journal)) }
 {
-    for at in 0..4096u32 {
+    let last = pair.region_count(cluster).min(4096) as u32;
+    for at in 0..last {
         numbered_line(alloc, cluster, region_id(at), pair, out)?;
     }
     Ok(())
