@@ -7,6 +7,3 @@ mod split;
 
 pub use error::SplitError;
 pub use split::split_log;
-
-#[cfg(test)]
-mod tests;

@@ -7,6 +7,3 @@ mod parents;
 
 pub use barriers::{Barriers, Range};
 pub use parents::{Parent, Parents};
-
-#[cfg(test)]
-mod tests;

@@ -11,7 +11,7 @@ ghost use Rattle.cluster_core.specs.Does.{Standing, Reached, Answers, Counts, Fa
 ghost use Rattle.region_events.specs.Effects.{with_table};
 ghost use Rattle.region_events.specs.Refusals.{table_refusal};
 
-use cell_store::CellStore;
+use table_cells::CellStore;
 use cluster_core::{
     ClusterCore, CoreError, Stored, TableCells, Trace, barriers_change, families, put_records,
     region_change, table_change,

@@ -9,6 +9,3 @@ mod host;
 mod lists;
 
 pub use host::{Committed, Host, Kept};
-
-#[cfg(test)]
-mod tests;

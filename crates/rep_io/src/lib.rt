@@ -14,6 +14,3 @@ pub use memory_source::MemSource;
 pub use standard::{StdSink, StdSource};
 pub use traits::{ReadFailed, Sink, Source, WriteFailed};
 pub use whole::{ReadError, read_all, write_all};
-
-#[cfg(test)]
-mod tests;

@@ -61,5 +61,3 @@ pub fn may_sink(state: SyncState) -> bool
     state == SyncState::Standby
 }
 
-#[cfg(test)]
-mod tests;

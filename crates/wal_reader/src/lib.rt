@@ -8,6 +8,3 @@ mod reader;
 pub use error::ReaderError;
 pub use laws::any_cutting;
 pub use reader::{LogReader, Next};
-
-#[cfg(test)]
-mod tests;

@@ -16,6 +16,3 @@ pub use error::LogError;
 pub use file::{FOLDER, file_name};
 pub use laws::log_names_are_apart;
 pub use writer::LogWriter;
-
-#[cfg(test)]
-mod tests;

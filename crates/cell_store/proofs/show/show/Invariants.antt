@@ -1,7 +1,0 @@
-use Rattle.std.proofs.Common.{◌≡◌, take}
-use Rattle.std.specs.List.{filter_map}
-use Rattle.cell_store.specs.Entries.{shown_of}
-use Rattle.cell_store.proofs.show.show.Given as goal
-
-abbrev pub invariant-loop-entry : goal.invariant-loop-entry
-invariant-loop-entry l = l.views ≡ filter_map shown_of (take l.entry-index l.entries)

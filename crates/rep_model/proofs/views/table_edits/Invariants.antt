@@ -1,6 +1,0 @@
-use Rattle.std.proofs.Common.{◌≡◌, take}
-use Rattle.rep_model.specs.Reads.{table_edits}
-use Rattle.rep_model.proofs.views.table_edits.Given as goal
-
-abbrev pub invariant-loop-item : goal.invariant-loop-item
-invariant-loop-item l = l.edits ≡ table_edits l.table (take l.item-index l.written)

@@ -1,3 +1,0 @@
-pub mod Going
-pub mod Refusals
-pub mod Replies
