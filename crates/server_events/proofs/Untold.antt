@@ -13,7 +13,7 @@ use Rattle.rep_model.specs.Keyed.{given}
 use Rattle.rep_model.specs.State.{of, mark}
 use Rattle.rep_model.specs.Words.{is_paired}
 use Rattle.rep_model.specs.Peers.{is_synchronous, has_table}
-use Rattle.rep_model.specs.Tickets.{unless_told, tell_number, doubt_pending, tell_waiting}
+use Rattle.rep_model.specs.Tickets.{unless_told, tell_number, doubt_pending, tell_waiting, end_waiting}
 use Rattle.rep_model.specs.declared.machine.Machine.{Machine}
 use Rattle.rep_model.specs.declared.machine.Commit.{Commit}
 use Rattle.rep_model.specs.declared.machine.Link.{Link}
@@ -26,7 +26,6 @@ use Rattle.rep_model.specs.declared.machine.Written.{Written}
 use Rattle.rep_laws.proofs.Lists.{All_weaker, mark_sound}
 use Rattle.rep_laws.proofs.Lawful.{Lawful, lawful_journal}
 use Rattle.rep_laws.proofs.SavedPart.{Claimed, Fine, AllFine, form_covered}
-use Rattle.rep_laws.proofs.Steps.{ended}
 use Rattle.rep_laws.proofs.Synced.{Covering, covered, kinds, synced, nothing_covered}
 use Rattle.cluster_core.specs.declared.parts.PeerLine.{PeerLine}
 use Rattle.cluster_core.specs.Does.{Reached}
@@ -112,7 +111,7 @@ one_waits c (Some k) ts a = by (slice_get ts (k - 1)) refl
 -- ---- the end of what waits
 
 module _ (c : Cluster) (test : ℕ → ℕ → Bool) (new : EntryId → Told) where
-  stays : (t : Ticket) (k : Told) → (t.cluster ≡ c → waits k ≡ false) → ended c test new t k ≡ k
+  stays : (t : Ticket) (k : Told) → (t.cluster ≡ c → waits k ≡ false) → end_waiting c test new t k ≡ k
   stays t told.Pending h = refl
   stays t (told.Waiting s l i) h =
       cond_both ((mark t.cluster == mark c) && test s l) (new i) (told.Waiting s l i) (λ (u : Told). u ≡ told.Waiting s l i)
