@@ -1,31 +1,18 @@
--- What stands against recording a flight, as memory tells it, and what is left once it is recorded.
-use Rattle.std.specs.Prelude.{ℕ, ◌≡◌, not, is_some, is_none, Bool, List, [], ◌∷◌, find, Option, None, IfSome, MatchOption}
-use Rattle.rep_types.specs.declared.refusal.Refusal.{Refusal}
-use Rattle.rep_types.specs.declared.refusal.Refusal.TheVariants as refusal
-use Rattle.rep_types.specs.declared.reply.Reply.{Reply}
-use Rattle.rep_types.specs.declared.reply.Reply.TheVariants as reply
-use Rattle.rep_model.specs.Keyed.{given, if_some, replace}
-use Rattle.rep_model.specs.Row.{first}
-use Rattle.rep_model.specs.QueueEvents.{is_out}
+-- When a flight may be recorded, and what is left once it is.
+use Rattle.std.specs.Prelude.{ℕ, ◌≡◌, true, find, Option, Some}
+use Rattle.rep_model.specs.Keyed.{given, replace}
+use Rattle.rep_model.specs.PlanRows.{lives as lives_in}
+use Rattle.rep_model.specs.Peers.{peer_of}
+use Rattle.rep_model.specs.State.{Route, flight_of}
+use Rattle.rep_model.specs.declared.machine.Flight.{Flight}
+use Rattle.rep_model.specs.declared.machine.Machine.{Machine}
+use Rattle.rep_model.specs.declared.machine.Peer.{Peer}
 use Rattle.cluster_core.specs.declared.parts.ClusterCore.{ClusterCore}
 use Rattle.cluster_core.specs.declared.parts.Line.{Line}
 use Rattle.cluster_core.specs.declared.parts.Sent.{Sent}
+use Rattle.cluster_core.specs.Does.{sent_of}
 use Rattle.cluster_core.specs.Lookups.{is_line}
-use Rattle.cluster_core.specs.Lines.{added, lives, shelf_length, lands}
-use Rattle.queue_events.specs.Flights.{line_out, line_owner}
-
-abbrev pub line_of : Option Sent → ClusterCore → Option Line
-line_of there core = given there None (λ f. find (is_line f.peer f.server) core.lines)
-
-abbrev pub confirm_bars : ℕ → Option Sent → ClusterCore → List (Bool × Refusal)
-confirm_bars k there core =
-    let l = line_of there core in
-    (is_none there, refusal.NoFlight)
-    ∷ (not (if_some there (λ f. is_some (added f.peer core.peers))), refusal.NoPeer)
-    ∷ (not (is_out k (line_out l)), refusal.Stale (line_out l))
-    ∷ (not (if_some l (λ x. lives x.owner core.stations)), refusal.OwnerDead (line_owner l))
-    ∷ (not (if_some there (λ f. f.delivered)), refusal.NotDelivered k)
-    ∷ []
+use Rattle.cluster_core.specs.Lines.{shelf_length, lands}
 
 -- the queue has no flight, and its head stands behind these entries
 abbrev pub landed : Sent → ClusterCore → ClusterCore
@@ -34,10 +21,15 @@ landed f core = record core {
       replace (is_line f.peer f.server) (lands f.entries (shelf_length f.server core.index.shelves) l) core.lines);
 }
 
--- the flight is recorded
-abbrev pub Lands : Sent → ClusterCore → ClusterCore → Reply → Type 0
-Lands f old new said = (new ≡ landed f old) × (said ≡ reply.Recorded f.entries)
-
--- a refusal leaves memory as it was
-abbrev pub Confirms : ℕ → Option Sent → ClusterCore → ClusterCore → Reply → Type 0
-Confirms k there old new said = MatchOption (first (confirm_bars k there old)) (IfSome there (λ f. Lands f old new said)) (λ why. (new ≡ old) × (said ≡ reply.Refused why))
+-- the flight is known, it was delivered, its peer isn't removed, and it is the outstanding one of its queue, whose owner lives
+pub record MayConfirm (way : Route) (core : ClusterCore) (k : ℕ) (m : Machine) (sent : Sent) : Type 0 where
+  pub flight : Flight
+  pub there : flight_of k m ≡ Some flight
+  pub sent_is : sent ≡ sent_of way flight
+  pub peer : Peer
+  pub known : peer_of flight.cluster flight.peer m ≡ Some peer
+  pub line : Line
+  pub found : find (is_line flight.peer flight.server) core.lines ≡ Some line
+  pub out : line.flight ≡ Some k
+  pub lives : lives_in flight.cluster line.owner m ≡ true
+  pub delivered : flight.delivered ≡ true

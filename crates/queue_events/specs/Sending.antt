@@ -1,35 +1,37 @@
--- What stands against sending of a queue, as memory tells it, the batch that goes out, and the flight that it becomes.
-use Rattle.std.specs.Prelude.{ℕ, zero, suc, ◌+◌, ◌-◌, not, nat_le, is_some, is_none, Bool, true, false, ◌&&◌, List, [], ◌∷◌, drop, find, length, min, Option, Some, None, if◌then◌else◌}
+-- When a batch of a queue may be sent, the batch that goes out, and the flight that it becomes.
+use Rattle.std.specs.Prelude.{ℕ, zero, suc, ◌+◌, ◌-◌, ◌≡◌, not, nat_le, true, false, ◌&&◌, List, [], ◌∷◌, drop, find, length, min, Option, Some, None, if◌then◌else◌}
 use Rattle.rep_types.specs.Edit.{EditValue}
 use Rattle.rep_types.specs.declared.ids.Cluster.{Cluster}
 use Rattle.rep_types.specs.declared.entry.Entry.{Entry}
-use Rattle.rep_types.specs.declared.refusal.Refusal.{Refusal}
-use Rattle.rep_types.specs.declared.refusal.Refusal.TheVariants as refusal
 use Rattle.region_meta.specs.Regions.{Map, region_of, table_of}
-use Rattle.rep_model.specs.Keyed.{given, if_some}
-use Rattle.rep_model.specs.State.{mark, other}
-use Rattle.rep_model.specs.Peers.{has_table, is_enabled, is_synchronous}
+use Rattle.rep_model.specs.Keyed.{given}
+use Rattle.rep_model.specs.PlanRows.{lives as lives_in}
+use Rattle.rep_model.specs.Queues.{queue}
+use Rattle.rep_model.specs.QueueEvents.{is_empty}
+use Rattle.rep_model.specs.State.{of, mark, queue_of}
+use Rattle.rep_model.specs.Peers.{has_table, is_enabled, is_synchronous, peer_of}
 use Rattle.rep_model.specs.Forms.{is_marked, cut_kind}
 use Rattle.rep_model.specs.declared.machine.Form.{Form}
+use Rattle.rep_model.specs.declared.machine.Machine.{Machine}
+use Rattle.rep_model.specs.declared.machine.Peer.{Peer}
+use Rattle.rep_model.specs.declared.machine.Queue.{Queue}
 use Rattle.cluster_core.specs.declared.parts.ClusterCore.{ClusterCore}
 use Rattle.cluster_core.specs.declared.parts.Kept.{Kept}
 use Rattle.cluster_core.specs.declared.parts.PeerLine.{PeerLine}
 use Rattle.cluster_core.specs.declared.parts.Sent.{Sent}
 use Rattle.cluster_core.specs.Lookups.{is_line}
-use Rattle.cluster_core.specs.Lines.{added, lives, is_shelf, shelf_length}
-use Rattle.queue_events.specs.Flights.{line_out, line_owner}
+use Rattle.cluster_core.specs.Lines.{is_shelf}
 
-abbrev pub send_bars : ℕ → ℕ → ClusterCore → List (Bool × Refusal)
-send_bars p s core =
-    let x = added p core.peers in
-    let l = find (is_line p s) core.lines in
-    (is_none x, refusal.NoPeer)
-    ∷ (is_none l, refusal.NoQueue)
-    ∷ (not (if_some l (λ q. lives q.owner core.stations)), refusal.OwnerDead (line_owner l))
-    ∷ (not (if_some x (λ y. is_enabled y.standing)), refusal.Disabled)
-    ∷ (is_some (line_out l), given (line_out l) refusal.Empty (λ f. refusal.Outstanding f))
-    ∷ (given l true (λ q. nat_le (shelf_length s core.index.shelves) q.at), refusal.Empty)
-    ∷ []
+-- a queue of which a batch may be sent: its peer is enabled, its owner lives, no flight of it is out, and it isn't empty
+pub record MaySend (own : Cluster) (m : Machine) (p s : ℕ) : Type 0 where
+  pub peer : Peer
+  pub known : peer_of own p m ≡ Some peer
+  pub queued : Queue
+  pub its_queue : queue_of own p s m ≡ Some queued
+  pub lives : lives_in own queued.owner m ≡ true
+  pub enabled : is_enabled peer.standing ≡ true
+  pub free : queued.flight ≡ None
+  pub waits : is_empty (queue peer s (of own m).commits) ≡ false
 
 -- the first entries, at most n and of so many bytes
 abbrev pub taken_kept : ℕ → ℕ → List Kept → List Kept
@@ -56,19 +58,19 @@ with_entry_form None from to e fs = fs
 with_entry_form (Some edit) from to e fs =
     record { source = record { cluster = from; region = e.region; seq = e.seq }; edit = edit; marks = min (e.marks + mark to) 255 } ∷ fs
 
--- the forms of entries of one cluster for the other, in order
+-- the forms of entries of one cluster for another, in order
 abbrev pub entry_forms : Cluster → Cluster → List (List ℕ) → Map → List Entry → List Form
 entry_forms from to tables map [] = []
 entry_forms from to tables map (e ∷ es) = with_entry_form (entry_form to tables map e) from to e (entry_forms from to tables map es)
 
 -- the flight of these entries of the peer's queue
-abbrev pub sent_with : PeerLine → ℕ → ℕ → List Entry → ClusterCore → Sent
-sent_with x p s es core = record {
+abbrev pub sent_with : PeerLine → Cluster → ℕ → ℕ → List Entry → ClusterCore → Sent
+sent_with x to p s es core = record {
   cluster = core.own;
   peer = p;
   server = s;
   synchronous = is_synchronous x.kind;
   entries = length es;
-  forms = entry_forms core.own (other core.own) x.tables core.map es;
+  forms = entry_forms core.own to x.tables core.map es;
   delivered = false;
 }

@@ -1,6 +1,6 @@
 // The forms of a batch for its peer.
 ghost use Rattle.std.specs.Prelude.{◌≡◌, ◌+◌, min, IfOk};
-ghost use Rattle.rep_model.specs.State.{other, mark};
+ghost use Rattle.rep_model.specs.State.{mark};
 ghost use Rattle.rep_model.specs.Peers.{has_table};
 ghost use Rattle.rep_model.specs.Forms.{is_marked, cut_kind};
 ghost use Rattle.queue_events.specs.Sending.{entry_form, entry_forms};
@@ -10,17 +10,6 @@ use region_meta::RegionMap;
 use rep_model::Form;
 use rep_types::{Cluster, Edit, Entry, EntryId, EntryKind, Families, Items, Memory, Name, Names};
 use std::alloc::Global;
-
-/// The destination of a cluster's peers.
-pub fn other(cluster: Cluster) -> Cluster
-    ensures { result ≡ other cluster }
-{
-    match cluster {
-        Cluster::A => Cluster::B,
-        Cluster::B => Cluster::A,
-        Cluster::C => Cluster::A,
-    }
-}
 
 fn has_table(tables: &Names, table: &Name) -> bool
     ensures { result ≡ has_table tables.now table.now }
@@ -75,7 +64,7 @@ fn with_mark(marks: u8, cluster: Cluster) -> u8
     marks.saturating_add(mark(cluster))
 }
 
-/// The forms of entries of one cluster for the other, in order.
+/// The forms of entries of one cluster for another, in order.
 pub fn entry_forms(
     alloc: Global,
     from: Cluster,

@@ -1,10 +1,18 @@
-// What stands against sending of a queue, and the number that the next flight gets.
-ghost use Rattle.std.specs.Prelude.{◌≡◌, ◌+◌, length, IfSome};
+// Whether something may be sent of a queue, and the number that the next flight gets.
+ghost use Rattle.std.specs.Prelude.{◌≡◌, ◌+◌, ℕ, true, Some, length, IfOk, IfSome, MatchResult};
+ghost use Rattle.rep_vault.specs.Contents.{Contents};
+ghost use Rattle.rep_model.specs.Path.{refusal_of};
 ghost use Rattle.rep_model.specs.Peers.{is_enabled, is_synchronous};
-ghost use Rattle.rep_model.specs.Row.{first};
-ghost use Rattle.queue_events.specs.Sending.{send_bars};
+ghost use Rattle.rep_model.specs.PlanRows.{send_plan};
+ghost use Rattle.rep_model.specs.State.{Route, of};
+ghost use Rattle.rep_model.specs.Words.{is_in};
+ghost use Rattle.rep_model.specs.declared.machine.Machine.{Machine};
+ghost use Rattle.cluster_core.specs.Does.{Reached};
+ghost use Rattle.cluster_core.specs.Lines.{added};
+ghost use Rattle.cluster_core.specs.Stands.{Stands};
+ghost use Rattle.queue_events.specs.Sending.{MaySend};
 
-use cluster_core::{ClusterCore, Sent, added_peer, find_line, is_live, shelf_length};
+use cluster_core::{ClusterCore, PeerLine, Sent, added_peer, find_line, is_live, shelf_length};
 use rep_model::Standing;
 use rep_types::{Items, Kind, PeerId, Refusal, ServerId};
 
@@ -28,30 +36,35 @@ pub fn is_synchronous(kind: Kind) -> bool
     }
 }
 
-/// Why nothing is sent of a queue.
-#[tactic(auto, unfolding(rep_model::specs::Keyed::given))]
-pub fn send_refusal(core: &ClusterCore, peer: PeerId, server: ServerId) -> Option<Refusal>
-    ensures { result ≡ first (send_bars peer server core.now) }
+/// The peer to which a batch of the queue may be sent, or why nothing is sent of it.
+pub fn may_send<'a>(
+    core: &'a ClusterCore,
+    peer: PeerId,
+    server: ServerId,
+) -> Result<&'a PeerLine, Refusal>
+    ensures whose { IfOk result (λ whose. added peer core.now.peers ≡ Some whose.now) }
+    ensures state { (way : Route) (c : Contents) (m : Machine) (most : ℕ) → Reached way m → is_in way core.now.own ≡ true → Stands core.now.own c core.now (of core.now.own m)
+        → MatchResult result (λ _. MaySend core.now.own m peer server) (λ why. refusal_of (send_plan way core.now.own peer server most m) ≡ Some why) }
 {
     let Some(whose) = added_peer(&core.peers, peer) else {
-        return Some(Refusal::NoPeer);
+        return Err(Refusal::NoPeer);
     };
     let Some(line) = find_line(&core.lines, peer, server) else {
-        return Some(Refusal::NoQueue);
+        return Err(Refusal::NoQueue);
     };
     if !is_live(&core.stations, line.owner) {
-        return Some(Refusal::OwnerDead { by: line.owner });
+        return Err(Refusal::OwnerDead { by: line.owner });
     }
     if !is_enabled(whose.standing) {
-        return Some(Refusal::Disabled);
+        return Err(Refusal::Disabled);
     }
     if let Some(flight) = line.flight {
-        return Some(Refusal::Outstanding { flight });
+        return Err(Refusal::Outstanding { flight });
     }
     if shelf_length(&core.index.shelves, server) <= line.at {
-        return Some(Refusal::Empty);
+        return Err(Refusal::Empty);
     }
-    None
+    Ok(whose)
 }
 
 /// The number of the next flight, where it is one of 32 bits.
