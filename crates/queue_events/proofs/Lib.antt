@@ -3,8 +3,9 @@ pub mod Confirmed
 pub mod Formed
 pub mod Framing
 pub mod Going
+pub mod Known
 pub mod Pieces
-pub mod SendBars
+pub mod Sendable
 pub mod Sends
 pub mod Sources
 pub mod Taking

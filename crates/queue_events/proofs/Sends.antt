@@ -1,28 +1,22 @@
 -- A batch that goes out, and what memory and the store stand for after it.
-use Rattle.std.proofs.Common.{ℕ, ◌≡◌, true, List, [], ◌∷◌, find, Option, Some, None, refl, ap, sym, ◌∙◌}
-use Rattle.std.specs.List.{AllByRecursion}
+use Rattle.std.proofs.Common.{ℕ, ◌≡◌, ◌==◌, true, false, List, [], ◌∷◌, ◌++◌, length, find, Some, None, refl, ap, sym, ◌∙◌}
+use Rattle.std.specs.List.{AllByRecursion, list_any}
 use Rattle.rep_types.specs.declared.ids.Cluster.{Cluster}
 use Rattle.rep_types.specs.declared.ids.Cluster.TheVariants.{A, B, C}
-use Rattle.rep_types.specs.declared.event.Event.TheVariants as event
-use Rattle.rep_types.specs.declared.refusal.Refusal.{Refusal}
-use Rattle.rep_types.specs.declared.reply.Reply.{Reply}
 use Rattle.rep_types.specs.declared.reply.Reply.TheVariants as reply
 use Rattle.rep_types.specs.declared.state.Call.TheVariants as call
 use Rattle.rep_vault.specs.Contents.{Contents}
-use Rattle.rep_model.specs.Keyed.{given, replace}
-use Rattle.rep_model.specs.State.{of, with, other, is_queue}
-use Rattle.rep_model.specs.Words.{is_paired}
-use Rattle.rep_model.specs.Peers.{peer_of}
+use Rattle.rep_model.specs.Keyed.{replace}
+use Rattle.rep_model.specs.State.{Route, of, with, mark, is_queue, with_queue}
 use Rattle.rep_model.specs.Queues.{batch}
-use Rattle.rep_model.specs.QueueEvents.{flown, new_flight, next_flight, held_refusal, sent, send_batch, send_refusals, send_row}
-use Rattle.rep_model.specs.Row.{answers, first, unless, or_fault}
-use Rattle.rep_model.specs.Rows.{row}
-use Rattle.rep_model.specs.declared.faults.Site.{Site}
+use Rattle.rep_model.specs.QueueEvents.{new_flight, next_flight, held_refusal, flight_forms}
+use Rattle.rep_model.specs.Plan.{told}
+use Rattle.rep_model.specs.PlanRows.{send_plan}
+use Rattle.rep_model.specs.Row.{answers, is_site, site}
 use Rattle.rep_model.specs.declared.machine.Machine.{Machine}
 use Rattle.rep_model.specs.declared.machine.Side.{Side}
 use Rattle.rep_model.specs.declared.machine.Commit.{Commit}
 use Rattle.rep_model.specs.declared.machine.Flight.{Flight}
-use Rattle.rep_model.specs.declared.machine.Peer.{Peer}
 use Rattle.rep_model.specs.declared.machine.Queue.{Queue}
 use Rattle.rep_laws.proofs.Finding.{All_replaced}
 use Rattle.rep_laws.proofs.Lists.{All_found}
@@ -33,49 +27,43 @@ use Rattle.cluster_core.specs.Memory.{queue_of_line, IsAt}
 use Rattle.cluster_core.specs.Stands.{QueuesStand, Stands}
 use Rattle.cluster_core.specs.Lookups.{is_line}
 use Rattle.cluster_core.specs.Lines.{flies}
-use Rattle.cluster_core.proofs.Answering.{refused, let_through, faulted_one}
+use Rattle.cluster_core.proofs.Answering.{is_site_self}
+use Rattle.cluster_core.proofs.Simple.{beside_with}
 use Rattle.cluster_core.proofs.Queued.{requeued, stands_requeued, map_replace, line_numbers}
-use Rattle.queue_events.proofs.Confirmed.{other_with}
+use Rattle.queue_events.specs.Sending.{MaySend}
 
 -- ---- the row
 
-pub send_refused : (own : Cluster) (p s n : ℕ) (why : Refusal) (m : Machine) → first (send_refusals own p s m) ≡ Some why → row (event.Send own p s n) (reply.Refused why) m ≡ answers (reply.Refused why) m
-unfolding send_row
-send_refused own p s n why m e = refused (first (send_refusals own p s m)) why m _ e
+module _ {way : Route} (own : Cluster) (p s n : ℕ) (m : Machine) (may : MaySend own m p s) where
+  pub send_faulted : (count : ℕ) → told (send_plan way own p s n m) (reply.StoreFault own call.Read count) m ≡ answers (reply.StoreFault own call.Read count) m
+  unfolding send_plan
+  send_faulted count =
+      let self : list_any (is_site own call.Read) (site own call.Read ∷ []) ≡ true = rw (is_site_self own call.Read) refl in
+      rw (may.known, told, may.its_queue, told, may.lives, may.enabled, may.free, may.waits, self) refl
 
-opens_to : (own : Cluster) (p s n : ℕ) (said : Reply) (m : Machine) (x : Peer) → first (send_refusals own p s m) ≡ None → peer_of own p m ≡ Some x → row (event.Send own p s n) said m ≡ send_batch own p s n said x m
-unfolding given send_row
-opens_to own p s n said m x none there =
-    let_through (first (send_refusals own p s m)) m _ none ∙ ap (λ (o : Option Peer). given o (answers reply.Done m) (λ y. send_batch own p s n said y m)) there
-
-pub send_faulted : (own : Cluster) (p s n count : ℕ) (m : Machine) (x : Peer) → first (send_refusals own p s m) ≡ None → peer_of own p m ≡ Some x
-    → row (event.Send own p s n) (reply.StoreFault own call.Read count) m ≡ answers (reply.StoreFault own call.Read count) m
-send_faulted own p s n count m x none there =
-    let said : Reply = reply.StoreFault own call.Read count in
-    let entries : List Commit = batch x s n (of own m).commits in
-    opens_to own p s n said m x none there
-    ∙ ap (λ (o : Option Site). or_fault o said (λ _. m) (unless (held_refusal own s entries x m) m (sent (new_flight (next_flight m) own s x entries) m))) (faulted_one own call.Read count)
-
-pub send_sent : (own : Cluster) (p s n a b c : ℕ) (m : Machine) (x : Peer) (y : Commit) (ys : List Commit) → first (send_refusals own p s m) ≡ None → peer_of own p m ≡ Some x → batch x s n (of own m).commits ≡ y ∷ ys
-    → row (event.Send own p s n) (reply.Sent a b c) m ≡ sent (new_flight (next_flight m) own s x (batch x s n (of own m).commits)) m
-send_sent own p s n a b c m x y ys none there some =
-    opens_to own p s n (reply.Sent a b c) m x none there
-    ∙ let_through (held_refusal own s (batch x s n (of own m).commits) x m) m _ (ap (λ (es : List Commit). held_refusal own s es x m) some)
+  pub send_sent : (a b c : ℕ) (y : Commit) (ys : List Commit) → batch may.peer s n (of own m).commits ≡ y ∷ ys
+      → told (send_plan way own p s n m) (reply.Sent a b c) m
+      ≡ answers (reply.Sent (next_flight m) (length (batch may.peer s n (of own m).commits)) (length (flight_forms way (new_flight (next_flight m) own s may.peer (batch may.peer s n (of own m).commits)))))
+      (with_queue own (record may.queued { flight = Some (next_flight m) }) (record m { flights = m.flights ++ new_flight (next_flight m) own s may.peer (batch may.peer s n (of own m).commits) ∷ [] }))
+  unfolding send_plan
+  send_sent a b c y ys some =
+      let held : held_refusal own s (batch may.peer s n (of own m).commits) may.peer m ≡ None = ap (λ (es : List Commit). held_refusal own s es may.peer m) some in
+      rw (may.known, told, may.its_queue, told, may.lives, may.enabled, may.free, may.waits, held) refl
 
 -- ---- the state after it
 
-pub flown_is : (c : Cluster) (p s k : ℕ) (fs : List Flight) (q : Queue) (m : Machine) → find (is_queue p s) (of c m).queues ≡ Some q
-    → flown c p s (Some k) (record m { flights = fs }) ≡ record (with c (requeued (of c m).peers (replace (is_queue q.peer q.server) (record q { flight = Some k }) (of c m).queues) (of c m)) m) { flights = fs }
-unfolding given
-flown_is A p s k fs q m e = rw e refl
-flown_is B p s k fs q m e = rw e refl
-flown_is C p s k fs q m e = rw e refl
+pub flown_is : (c : Cluster) (k : ℕ) (fs : List Flight) (q : Queue) (m : Machine)
+    → with_queue c (record q { flight = Some k }) (record m { flights = fs })
+    ≡ record (with c (requeued (of c m).peers (replace (is_queue q.peer q.server) (record q { flight = Some k }) (of c m).queues) (of c m)) m) { flights = fs }
+flown_is A k fs q m = refl
+flown_is B k fs q m = refl
+flown_is C k fs q m = refl
 
 pub of_both : (c : Cluster) (side : Side) (fs : List Flight) (m : Machine) → of c (record (with c side m) { flights = fs }) ≡ side
 of_both c side fs m = of_flights c fs (with c side m) ∙ of_with c side m
 
-pub beside_both : (c : Cluster) (side : Side) (fs : List Flight) (m : Machine) → is_paired c ≡ true → of (other c) (record (with c side m) { flights = fs }) ≡ of (other c) m
-beside_both c side fs m pair = of_flights (other c) fs (with c side m) ∙ other_with c side m pair
+pub beside_both : (c : Cluster) (side : Side) (fs : List Flight) (m : Machine) (d : Cluster) → (mark d == mark c) ≡ false → of d (record (with c side m) { flights = fs }) ≡ of d m
+beside_both c side fs m d apart = of_flights d fs (with c side m) ∙ beside_with c side m d apart
 
 -- the queue has a flight
 module _ (own : Cluster) (c : Contents) (core : ClusterCore) (m : Machine) (k : Stands own c core (of own m)) (p s f : ℕ) (l : Line) (found : find (is_line p s) core.lines ≡ Some l) where

@@ -11,15 +11,14 @@ use Rattle.rep_types.specs.declared.state.Kind.TheVariants.{Plain}
 use Rattle.rep_vault.specs.Contents.{Contents}
 use Rattle.wal_entry.specs.Framed.{HasFrame}
 use Rattle.wal_entry.specs.Length.{frame_length}
-use Rattle.rep_model.specs.Keyed.{given, if_some}
-use Rattle.rep_model.specs.State.{of, other, is_server, is_peer, is_region, queue_of, server_of}
+use Rattle.rep_model.specs.Keyed.{given}
+use Rattle.rep_model.specs.State.{Route, of, dest, is_server, is_peer, is_region, queue_of, server_of}
 use Rattle.rep_model.specs.Places.{is_named}
-use Rattle.rep_model.specs.Words.{is_paired}
+use Rattle.rep_model.specs.Words.{is_in}
 use Rattle.rep_model.specs.Peers.{is_removed, peer_of, is_synchronous}
 use Rattle.rep_model.specs.Queues.{queue, batch, taken}
 use Rattle.rep_model.specs.Forms.{forms}
-use Rattle.rep_model.specs.QueueEvents.{is_empty, new_flight, next_flight, send_refusals}
-use Rattle.rep_model.specs.Row.{first}
+use Rattle.rep_model.specs.QueueEvents.{is_empty, new_flight, next_flight}
 use Rattle.rep_model.specs.declared.machine.Machine.{Machine}
 use Rattle.rep_model.specs.declared.machine.Commit.{Commit}
 use Rattle.rep_model.specs.declared.machine.Hosted.{Hosted}
@@ -46,10 +45,10 @@ use Rattle.cluster_core.specs.Lines.{added, is_shelf}
 use Rattle.cluster_core.proofs.Finds.{find_map}
 use Rattle.cluster_core.proofs.QueueLookups.{added_one}
 use Rattle.cluster_core.proofs.Shelving.{shelf_found}
-use Rattle.queue_events.specs.Sending.{send_bars, taken_kept, kept_batch, entry_forms, sent_with}
+use Rattle.queue_events.specs.Sending.{MaySend, taken_kept, kept_batch, entry_forms, sent_with}
 use Rattle.queue_events.specs.Reading.{HasFrameAt, AreFramesAt}
-use Rattle.queue_events.proofs.Confirmed.{queue_is, peer_is, added_found, line_found}
-use Rattle.queue_events.proofs.SendBars.{there, opened, send_bars_are, server_there, queue_at}
+use Rattle.queue_events.proofs.Known.{added_found, mapped_some, peer_is, queue_is}
+use Rattle.queue_events.proofs.Sendable.{server_there, queue_at}
 use Rattle.queue_events.proofs.Batched.{drop_kept, taken_is, taken_front, taken_some}
 use Rattle.queue_events.proofs.Framing.{HoldsLog, Stored, log_holds, frames_at, have_frames, one_list}
 use Rattle.queue_events.proofs.Formed.{Known, forms_are}
@@ -66,9 +65,9 @@ unfolding given
 stays None x e = absurd (none-some x e)
 stays (Some y) x e = cond_both (is_removed y.standing) None (Some y) (λ w. w ≡ Some x → is_removed x.standing ≡ false) (λ _ h. absurd (none-some x h)) (λ b h. ap (λ (z : Peer). is_removed z.standing) (sym (same_Some y x h)) ∙ b) e
 
-pub logs_kept : (own : Cluster) → is_paired own ≡ true → (m : Machine) → Reached m → LogsKept own m
+pub logs_kept : {way : Route} (own : Cluster) → is_in way own ≡ true → (m : Machine) → Reached way m → LogsKept own m
 logs_kept own pair m r p s x v e f y i =
-    let law : KeptIn own m = subst (KeptIn own) r.2 (queues_are_kept r.0 r.1 own pair) in
+    let law : KeptIn own m = subst (KeptIn own) r.leads (queues_are_kept _ r.steps r.legal own pair) in
     let peer : In x (of own m).peers = found_in (is_peer p) (of own m).peers x (added_found (find (is_peer p) (of own m).peers) x e) in
     let number : v.number ≡ s = eqb-true v.number s (found_passes (is_server s) (of own m).servers v f) in
     law x peer (stays (find (is_peer p) (of own m).peers) x e) v (found_in (is_server s) (of own m).servers v f) y (subst (λ n. In y (queue x n (of own m).commits)) (sym number) i)
@@ -78,18 +77,18 @@ logs_kept own pair m r p s x v e f y i =
 abbrev InLog : Cluster → Machine → Commit → Type 0
 InLog own m y = (v : Server) × (server_of own y.server m ≡ Some v) × (y.log ≤ v.log) × (1 ≤ y.log)
 
-in_logs : (own : Cluster) → is_paired own ≡ true → (m : Machine) → Reached m → (y : Commit) → In y (of own m).commits → InLog own m y
-in_logs own pair m r = subst (λ (n : Machine). (y : Commit) → In y (of own n).commits → InLog own n y) r.2 (commits_are_in_logs r.0 r.1 own pair)
+in_logs : {way : Route} (own : Cluster) → is_in way own ≡ true → (m : Machine) → Reached way m → (y : Commit) → In y (of own m).commits → InLog own m y
+in_logs own pair m r = subst (λ (n : Machine). (y : Commit) → In y (of own n).commits → InLog own n y) r.leads (commits_are_in_logs _ r.steps r.legal own pair)
 
-fits : (own : Cluster) → is_paired own ≡ true → (m : Machine) → Reached m → (y : Commit) → In y (of own m).commits → frame_length y.kind ≤ 65536
-fits own pair m r = subst (λ (n : Machine). (y : Commit) → In y (of own n).commits → frame_length y.kind ≤ 65536) r.2 (frame_fits r.0 r.1 own pair)
+fits : {way : Route} (own : Cluster) → is_in way own ≡ true → (m : Machine) → Reached way m → (y : Commit) → In y (of own m).commits → frame_length y.kind ≤ 65536
+fits own pair m r = subst (λ (n : Machine). (y : Commit) → In y (of own n).commits → frame_length y.kind ≤ 65536) r.leads (frame_fits _ r.steps r.legal own pair)
 
-known : (own : Cluster) → is_paired own ≡ true → (m : Machine) → Reached m → (y : Commit) → In y (of own m).commits → HasFrame (entry_of y) → Known (of own m) y
+known : {way : Route} (own : Cluster) → is_in way own ≡ true → (m : Machine) → Reached way m → (y : Commit) → In y (of own m).commits → HasFrame (entry_of y) → Known (of own m) y
 known own pair m r y i f =
     let regions : (z : Commit) → In z (of own m).commits → (h : Hosted) × (find (is_region z.region.number) (of own m).regions ≡ Some h) × (h.region ≡ z.region) =
-    subst (λ (n : Machine). (z : Commit) → In z (of own n).commits → (h : Hosted) × (find (is_region z.region.number) (of own n).regions ≡ Some h) × (h.region ≡ z.region)) r.2 (regions_are_known r.0 r.1 own pair) in
+    subst (λ (n : Machine). (z : Commit) → In z (of own n).commits → (h : Hosted) × (find (is_region z.region.number) (of own n).regions ≡ Some h) × (h.region ≡ z.region)) r.leads (regions_are_known _ r.steps r.legal own pair) in
     let tables : (h : Hosted) → In h (of own m).regions → find (is_named h.region.table.name) (of own m).tables ≡ Some h.region.table =
-    subst (λ (n : Machine). (h : Hosted) → In h (of own n).regions → find (is_named h.region.table.name) (of own n).tables ≡ Some h.region.table) r.2 (hosted_table_is_found r.0 r.1 own pair) in
+    subst (λ (n : Machine). (h : Hosted) → In h (of own n).regions → find (is_named h.region.table.name) (of own n).tables ≡ Some h.region.table) r.leads (hosted_table_is_found _ r.steps r.legal own pair) in
     let h = regions y i in
     record {
       hosted = h.0;
@@ -105,7 +104,7 @@ station_holds : (c : Contents) (own : Cluster) (m : Machine) (s : ℕ) (o : Opti
 station_holds c own m s (Some st) v l k low high = log_holds c (of own m).commits st.host v l k.logs low high
 station_holds c own m s None v l k low high = absurd k
 
-filled : (w : List Commit) → not (not (is_empty w)) ≡ false → (y : Commit) × (ys : List Commit) × (w ≡ y ∷ ys)
+filled : (w : List Commit) → is_empty w ≡ false → (y : Commit) × (ys : List Commit) × (w ≡ y ∷ ys)
 filled [] e = absurd (true≢false e)
 filled (y ∷ ys) e = (y, ys, refl)
 
@@ -114,45 +113,34 @@ nothing h = omega arith
 
 -- ---- a queue from which something may be sent
 
-module _ (own : Cluster) (c : Contents) (core : ClusterCore) (m : Machine) (reached : Reached m) (k : Stands own c core (of own m)) (p s : ℕ) (opens : first (send_bars p s core) ≡ None) where
-  pub state_opens : first (send_refusals own p s m) ≡ None
-  state_opens = sym (send_bars_are own c core m reached k p s) ∙ opens
+module _ {way : Route} (own : Cluster) (c : Contents) (core : ClusterCore) (m : Machine) (reached : Reached way m) (pair : is_in way own ≡ true) (k : Stands own c core (of own m)) (p s : ℕ)
+    (may : MaySend own m p s) where
+  pub its_line : (l : Line) × (find (is_line p s) core.lines ≡ Some l) × (queue_of_line l ≡ may.queued)
+  its_line = mapped_some queue_of_line (find (is_line p s) core.lines) may.queued (queue_is own c core m k p s ∙ may.its_queue)
 
-  free : (is_none (peer_of own p m) ≡ false) × (is_none (queue_of own p s m) ≡ false) × (not (if_some (peer_of own p m) (λ (x : Peer). not (is_empty (queue x s (of own m).commits)))) ≡ false)
-  free = opened _ _ _ _ _ _ _ state_opens
-
-  pub sender : (x : Peer) × (peer_of own p m ≡ Some x)
-  sender = there (peer_of own p m) free.0
-
-  pub its_queue : (q : Queue) × (queue_of own p s m ≡ Some q)
-  its_queue = there (queue_of own p s m) free.1
-
-  pub its_line : (l : Line) × (find (is_line p s) core.lines ≡ Some l) × (queue_of_line l ≡ its_queue.0)
-  its_line = line_found (find (is_line p s) core.lines) its_queue.0 (queue_is own c core m k p s ∙ its_queue.1)
-
-  at_line : (its_line.0.at ≤ length (server_commits s (of own m).commits)) × (queue sender.0 s (of own m).commits ≡ drop its_line.0.at (server_commits s (of own m).commits))
-  at_line = queue_at own c core m k p s its_line.0 sender.0 its_line.1 sender.1
+  at_line : (its_line.0.at ≤ length (server_commits s (of own m).commits)) × (queue may.peer s (of own m).commits ≡ drop its_line.0.at (server_commits s (of own m).commits))
+  at_line = queue_at own c core m k p s its_line.0 may.peer its_line.1 may.known
 
   its_server : (v : Server) × (server_of own s m ≡ Some v) × (v.number ≡ s)
-  its_server = server_there own k.paired m reached p s its_queue.0 its_queue.1
+  its_server = server_there own pair m reached p s may.queued may.its_queue
 
-  sender_known : find (is_peer p) (of own m).peers ≡ Some sender.0
-  sender_known = added_found (find (is_peer p) (of own m).peers) sender.0 sender.1
+  sender_known : find (is_peer p) (of own m).peers ≡ Some may.peer
+  sender_known = added_found (find (is_peer p) (of own m).peers) may.peer may.known
 
-  pub sender_number : sender.0.number ≡ p
-  sender_number = eqb-true sender.0.number p (found_passes (is_peer p) (of own m).peers sender.0 sender_known)
+  pub sender_number : may.peer.number ≡ p
+  sender_number = eqb-true may.peer.number p (found_passes (is_peer p) (of own m).peers may.peer sender_known)
 
-  sender_plain : sender.0.kind ≡ Plain
+  sender_plain : may.peer.kind ≡ Plain
   sender_plain =
-      let line : find (is_peer_line p) core.peers ≡ Some (peer_line sender.0) = ap (find (is_peer_line p)) k.queues.peers ∙ (find_map peer_line (is_peer_line p) (of own m).peers ∙ ap (option_map peer_line) sender_known) in
-      All_found (λ (w : PeerLine). w.kind ≡ Plain) (is_peer_line p) core.peers (peer_line sender.0) line k.queues.plain
+      let line : find (is_peer_line p) core.peers ≡ Some (peer_line may.peer) = ap (find (is_peer_line p)) k.queues.peers ∙ (find_map peer_line (is_peer_line p) (of own m).peers ∙ ap (option_map peer_line) sender_known) in
+      All_found (λ (w : PeerLine). w.kind ≡ Plain) (is_peer_line p) core.peers (peer_line may.peer) line k.queues.plain
 
   -- ---- what waits
 
   abbrev Member : Commit → Type 0
   Member y = In y (of own m).commits × (y.server ≡ s)
 
-  members : AllByRecursion Member (queue sender.0 s (of own m).commits)
+  members : AllByRecursion Member (queue may.peer s (of own m).commits)
   members =
       let own_ones : AllByRecursion Member (server_commits s (of own m).commits) =
       All_passing (λ (y : Commit). In y (of own m).commits) Member (λ (y : Commit). y.server == s) (of own m).commits (λ y i t. (i, eqb-true y.server s t)) (all_in (of own m).commits) in
@@ -161,13 +149,13 @@ module _ (own : Cluster) (c : Contents) (core : ClusterCore) (m : Machine) (reac
   has_frame : (y : Commit) → In y (of own m).commits → HasFrame (entry_of y)
   has_frame y i = in_all (λ (z : Commit). HasFrame (entry_of z)) y (of own m).commits i k.framed
 
-  stored_one : LogsKept own m → (y : Commit) → Member y → In y (queue sender.0 s (of own m).commits) → Stored c s (of own m).commits y
+  stored_one : LogsKept own m → (y : Commit) → Member y → In y (queue may.peer s (of own m).commits) → Stored c s (of own m).commits y
   stored_one kept y i j =
       let v = its_server in
-      let log = in_logs own k.paired m reached y i.0 in
+      let log = in_logs own pair m reached y i.0 in
       let same : log.0 ≡ v.0 = same_Some log.0 v.0 (sym log.1 ∙ (ap (λ n. server_of own n m) i.1 ∙ v.1)) in
       let high : y.log ≤ v.0.log = subst (λ (w : Server). y.log ≤ w.log) same log.2 in
-      let low : v.0.lowest ≤ y.log = kept p s sender.0 v.0 sender.1 v.1 y j in
+      let low : v.0.lowest ≤ y.log = kept p s may.peer v.0 may.known v.1 y j in
       let station : StationAt c (of own m) s (find (is_station s) core.stations) (Some v.0) = subst (StationAt c (of own m) s (find (is_station s) core.stations)) v.1 (k.servers s) in
       record {
         own = i.1;
@@ -175,18 +163,18 @@ module _ (own : Cluster) (c : Contents) (core : ClusterCore) (m : Machine) (reac
         holds = subst (λ n. HoldsLog c n y.log (of own m).commits) v.2 (station_holds c own m s _ v.0 y.log station low high);
       }
 
-  stored_all : LogsKept own m → AllByRecursion (Stored c s (of own m).commits) (queue sender.0 s (of own m).commits)
-  stored_all kept = All_both (stored_one kept) (queue sender.0 s (of own m).commits) members (all_in (queue sender.0 s (of own m).commits))
+  stored_all : LogsKept own m → AllByRecursion (Stored c s (of own m).commits) (queue may.peer s (of own m).commits)
+  stored_all kept = All_both (stored_one kept) (queue may.peer s (of own m).commits) members (all_in (queue may.peer s (of own m).commits))
 
   -- ---- the batch
 
   abbrev sent_ones : ℕ → List Commit
-  sent_ones n = batch sender.0 s n (of own m).commits
+  sent_ones n = batch may.peer s n (of own m).commits
 
-  front : (n : ℕ) → (rest : List Commit) × (sent_ones n ++ rest ≡ queue sender.0 s (of own m).commits)
-  front n = taken_front sender.0 (of own m).commits n 65536 [] (queue sender.0 s (of own m).commits)
+  front : (n : ℕ) → (rest : List Commit) × (sent_ones n ++ rest ≡ queue may.peer s (of own m).commits)
+  front n = taken_front may.peer (of own m).commits n 65536 [] (queue may.peer s (of own m).commits)
 
-  of_front : (P : Commit → Type 0) (n : ℕ) → AllByRecursion P (queue sender.0 s (of own m).commits) → AllByRecursion P (sent_ones n)
+  of_front : (P : Commit → Type 0) (n : ℕ) → AllByRecursion P (queue may.peer s (of own m).commits) → AllByRecursion P (sent_ones n)
   of_front P n a = All_left P (sent_ones n) (front n).0 (subst (AllByRecursion P) (sym (front n).1) a)
 
   pub batch_is : (n : ℕ) → kept_batch p s n core ≡ kept_after (take its_line.0.at (server_commits s (of own m).commits)) (sent_ones n)
@@ -200,8 +188,8 @@ module _ (own : Cluster) (c : Contents) (core : ClusterCore) (m : Machine) (reac
       ∙ (ap (λ (o : Option Shelf). given o [] (λ sh. taken_kept n 65536 (drop at sh.kept))) shelf
       ∙ (ap (λ i. taken_kept n 65536 (drop at (kept_after [] (server_commits i (of own m).commits)))) v.2
       ∙ (ap (taken_kept n 65536) (drop_kept at [] S)
-      ∙ (taken_is sender.0 (of own m).commits sender_plain n 65536 [] (take at S) (drop at S)
-      ∙ ap (λ (w : List Commit). kept_after (take at S) (taken sender.0 (of own m).commits n 65536 [] w)) (sym at_line.1)))))
+      ∙ (taken_is may.peer (of own m).commits sender_plain n 65536 [] (take at S) (drop at S)
+      ∙ ap (λ (w : List Commit). kept_after (take at S) (taken may.peer (of own m).commits n 65536 [] w)) (sym at_line.1)))))
 
   pub batch_frames : LogsKept own m → (n : ℕ) → AreFramesAt c s (kept_batch p s n core) (map entry_of (sent_ones n))
   batch_frames kept n =
@@ -220,30 +208,29 @@ module _ (own : Cluster) (c : Contents) (core : ClusterCore) (m : Machine) (reac
 
   -- ---- it isn't empty
 
-  some_waits : (y : Commit) × (ys : List Commit) × (queue sender.0 s (of own m).commits ≡ y ∷ ys)
-  unfolding given
-  some_waits = filled (queue sender.0 s (of own m).commits) (sym (ap (λ (o : Option Peer). not (if_some o (λ (x : Peer). not (is_empty (queue x s (of own m).commits))))) sender.1) ∙ free.2)
+  some_waits : (y : Commit) × (ys : List Commit) × (queue may.peer s (of own m).commits ≡ y ∷ ys)
+  some_waits = filled (queue may.peer s (of own m).commits) may.waits
 
-  pub batch_some : (n : ℕ) → 1 ≤ n → (y : Commit) × (ys : List Commit) × (batch sender.0 s n (of own m).commits ≡ y ∷ ys)
+  pub batch_some : (n : ℕ) → 1 ≤ n → (y : Commit) × (ys : List Commit) × (batch may.peer s n (of own m).commits ≡ y ∷ ys)
   batch_some zero h = absurd (nothing h)
   batch_some (suc n) h =
       let w = some_waits in
       let member : Member w.0 = (subst (AllByRecursion Member) w.2 members).0 in
-      let t = taken_some sender.0 (of own m).commits sender_plain n 65536 [] w.0 w.1 (le-leb _ _ (fits own k.paired m reached w.0 member.0)) in
-      (w.0, t.0, ap (taken sender.0 (of own m).commits (suc n) 65536 []) w.2 ∙ t.1)
+      let t = taken_some may.peer (of own m).commits sender_plain n 65536 [] w.0 w.1 (le-leb _ _ (fits own pair m reached w.0 member.0)) in
+      (w.0, t.0, ap (taken may.peer (of own m).commits (suc n) 65536 []) w.2 ∙ t.1)
 
   -- ---- the flight
 
   known_ones : (n : ℕ) → AllByRecursion (Known (of own m)) (sent_ones n)
-  known_ones n = of_front (Known (of own m)) n (All_weaker (λ y i. known own k.paired m reached y i.0 (has_frame y i.0)) (queue sender.0 s (of own m).commits) members)
+  known_ones n = of_front (Known (of own m)) n (All_weaker (λ y i. known own pair m reached y i.0 (has_frame y i.0)) (queue may.peer s (of own m).commits) members)
 
-  pub sent_is : LogsKept own m → (n : ℕ) (es : List Entry) (whose : PeerLine) → AreFramesAt c s (kept_batch p s n core) es → added p core.peers ≡ Some whose
-      → sent_with whose p s es core ≡ sent_of (new_flight (next_flight m) own s sender.0 (batch sender.0 s n (of own m).commits))
-  sent_is kept n es whose a e =
+  pub sent_is : LogsKept own m → (n : ℕ) (es : List Entry) (whose : PeerLine) (to : Cluster) → AreFramesAt c s (kept_batch p s n core) es → added p core.peers ≡ Some whose
+      → to ≡ dest way own → sent_with whose to p s es core ≡ sent_of way (new_flight (next_flight m) own s may.peer (batch may.peer s n (of own m).commits))
+  sent_is kept n es whose to a e goes =
       let read : es ≡ map entry_of (sent_ones n) = read_is kept n es a in
-      let line : whose ≡ peer_line sender.0 = same_Some whose (peer_line sender.0) (sym e ∙ (peer_is own c core m k p ∙ ap (option_map peer_line) sender.1)) in
+      let line : whose ≡ peer_line may.peer = same_Some whose (peer_line may.peer) (sym e ∙ (peer_is own c core m k p ∙ ap (option_map peer_line) may.known)) in
       let count : length es ≡ length (sent_ones n) = ap length read ∙ length-map (sent_ones n) entry_of in
-      let made : entry_forms core.own (other core.own) whose.tables core.map es ≡ forms own (other own) sender.0.tables (sent_ones n) =
-      (λ i. entry_forms (k.own_is i) (other (k.own_is i)) ((line i).tables) core.map (read i)) ∙ forms_are own (other own) sender.0.tables core.map (of own m) (sent_ones n) k.regions (known_ones n) in
-      let number : p ≡ sender.0.number = sym sender_number in
+      let made : entry_forms core.own to whose.tables core.map es ≡ forms own (dest way own) may.peer.tables (sent_ones n) =
+      (λ i. entry_forms (k.own_is i) (goes i) ((line i).tables) core.map (read i)) ∙ forms_are own (dest way own) may.peer.tables core.map (of own m) (sent_ones n) k.regions (known_ones n) in
+      let number : p ≡ may.peer.number = sym sender_number in
       (λ i. let w : Sent = record { cluster = k.own_is i; peer = number i; server = s; synchronous = is_synchronous ((line i).kind); entries = count i; forms = made i; delivered = false } in w)

@@ -32,9 +32,9 @@ fn may_confirm<'a>(
     let Some(sent) = find_sent(flights, flight) else {
         return Err(Refusal::NoFlight);
     };
-    if added_peer(&core.peers, sent.peer).is_none() {
+    let Some(_) = added_peer(&core.peers, sent.peer) else {
         return Err(Refusal::NoPeer);
-    }
+    };
     let Some(line) = find_line(&core.lines, sent.peer, sent.server) else {
         return Err(Refusal::Stale { now: None });
     };

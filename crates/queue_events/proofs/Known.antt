@@ -1,0 +1,81 @@
+-- What memory tells of peers, queues, servers and flights is what the state has.
+use Rattle.std.proofs.Common.{ℕ, zero, suc, ◌-◌, ◌≡◌, arith, true, map, find, slice_get, Option, Some, None, option_map, refl, ap, sym, ◌∙◌, subst, ne_eqb, if◌then◌else◌}
+use Rattle.std.proofs.lemmas.Bool.{cond_both}
+use Rattle.std.proofs.lemmas.Option.{none-some, same_Some, slice_get-map}
+use Rattle.rep_types.specs.declared.ids.Cluster.{Cluster}
+use Rattle.rep_vault.specs.Contents.{Contents}
+use Rattle.rep_model.specs.Keyed.{given}
+use Rattle.rep_model.specs.State.{Route, of, is_flight, is_queue, flight_of, queue_of}
+use Rattle.rep_model.specs.Peers.{is_removed, is_enabled, peer_of}
+use Rattle.rep_model.specs.PlanRows.{lives as lives_in}
+use Rattle.rep_model.specs.declared.machine.Flight.{Flight}
+use Rattle.rep_model.specs.declared.machine.Machine.{Machine}
+use Rattle.rep_model.specs.declared.machine.Peer.{Peer}
+use Rattle.rep_model.specs.declared.machine.Queue.{Queue}
+use Rattle.rep_laws.proofs.CitedMore.{flight_is_slot, flight_0_is_none}
+use Rattle.cluster_core.specs.declared.parts.ClusterCore.{ClusterCore}
+use Rattle.cluster_core.specs.declared.parts.Line.{Line}
+use Rattle.cluster_core.specs.declared.parts.PeerLine.{PeerLine}
+use Rattle.cluster_core.specs.declared.parts.Sent.{Sent}
+use Rattle.cluster_core.specs.Does.{Reached, sent_of}
+use Rattle.cluster_core.specs.Lines.{added, lives}
+use Rattle.cluster_core.specs.Lookups.{is_line}
+use Rattle.cluster_core.specs.Memory.{peer_line, queue_of_line}
+use Rattle.cluster_core.specs.Stands.{Stands}
+use Rattle.cluster_core.proofs.QueueLookups.{added_one, added_is, line_is, lives_is}
+use Rattle.queue_events.specs.Flights.{sent_at}
+
+pub mapped_none : {X Y : Type 0} (f : X → Y) (o : Option X) → option_map f o ≡ None → o ≡ None
+mapped_none f None e = refl
+mapped_none f (Some x) e = absurd (none-some (f x) (sym e))
+
+pub mapped_some : {X Y : Type 0} (f : X → Y) (o : Option X) (y : Y) → option_map f o ≡ Some y → (x : X) × (o ≡ Some x) × (f x ≡ y)
+mapped_some f None y e = absurd (none-some y e)
+mapped_some f (Some x) y e = (x, refl, same_Some (f x) y e)
+
+-- ---- flights by number
+
+slot_back : (k : ℕ) → suc k ≡ 0 → ⊥
+slot_back k e = omega arith
+
+pub sent_is : {way : Route} (m : Machine) → Reached way m → (k : ℕ) → sent_at k (map (sent_of way) m.flights) ≡ option_map (sent_of way) (flight_of k m)
+sent_is {way} m r zero = ap (option_map (sent_of way)) (sym (subst (λ (w : Machine). find (is_flight 0) w.flights ≡ None) r.leads (flight_0_is_none way r.steps r.legal)))
+sent_is {way} m r (suc k) =
+    ap (λ b. if b then None else slice_get (map (sent_of way) m.flights) (suc k - 1)) (ne_eqb (suc k) 0 (slot_back k))
+    ∙ (ap (slice_get (map (sent_of way) m.flights)) (less k) ∙ (slice_get-map (sent_of way) m.flights k
+    ∙ ap (option_map (sent_of way)) (sym (subst (λ (w : Machine). find (is_flight (suc k)) w.flights ≡ slice_get w.flights k) r.leads (flight_is_slot way r.steps r.legal k)))))
+  where
+    less : (n : ℕ) → suc n - 1 ≡ n
+    less n = omega arith
+
+-- ---- peers, queues and servers
+
+-- a peer that was added is found
+pub added_found : (o : Option Peer) (x : Peer) → added_one o ≡ Some x → o ≡ Some x
+unfolding given
+added_found None x e = absurd (none-some x e)
+added_found (Some y) x e = cond_both (is_removed y.standing) None (Some y) (λ w. w ≡ Some x → Some y ≡ Some x) (λ _ h. absurd (none-some x h)) (λ _ h. h) e
+
+module _ (own : Cluster) (c : Contents) (core : ClusterCore) (m : Machine) (k : Stands own c core (of own m)) where
+  pub peer_is : (p : ℕ) → added p core.peers ≡ option_map peer_line (peer_of own p m)
+  peer_is p = ap (added p) k.queues.peers ∙ added_is p (of own m).peers
+
+  pub peer_absent : (p : ℕ) → added p core.peers ≡ None → peer_of own p m ≡ None
+  peer_absent p e = mapped_none peer_line (peer_of own p m) (sym (peer_is p) ∙ e)
+
+  pub peer_known : (p : ℕ) (y : PeerLine) → added p core.peers ≡ Some y → (x : Peer) × (peer_of own p m ≡ Some x) × (is_enabled x.standing ≡ is_enabled y.standing)
+  peer_known p y e =
+      let x = mapped_some peer_line (peer_of own p m) y (sym (peer_is p) ∙ e) in
+      (x.0, x.1, ap (λ (z : PeerLine). is_enabled z.standing) x.2)
+
+  pub queue_is : (p s : ℕ) → option_map queue_of_line (find (is_line p s) core.lines) ≡ queue_of own p s m
+  queue_is p s = sym (line_is p s core.lines) ∙ ap (find (is_queue p s)) k.queues.queues
+
+  pub queue_absent : (p s : ℕ) → find (is_line p s) core.lines ≡ None → queue_of own p s m ≡ None
+  queue_absent p s e = sym (queue_is p s) ∙ ap (option_map queue_of_line) e
+
+  pub queue_known : (p s : ℕ) (l : Line) → find (is_line p s) core.lines ≡ Some l → queue_of own p s m ≡ Some (queue_of_line l)
+  queue_known p s l e = sym (queue_is p s) ∙ ap (option_map queue_of_line) e
+
+  pub living_is : (s : ℕ) → lives s core.stations ≡ lives_in own s m
+  living_is s = lives_is c (of own m) s _ _ (k.servers s)
