@@ -13,11 +13,13 @@ use Rattle.rep_types.specs.declared.reply.Reply.TheVariants as reply
 use Rattle.rep_vault.specs.Contents.{Contents}
 use Rattle.wal_entry.specs.Framed.{HasFrame}
 use Rattle.rep_model.specs.Keyed.{given, replace}
-use Rattle.rep_model.specs.State.{of, other, is_flight, flight_of}
-use Rattle.rep_model.specs.Words.{is_paired}
-use Rattle.rep_model.specs.Row.{Row, answers, first, unless}
+use Rattle.rep_model.specs.Plan.{Finds, told}
+use Rattle.rep_model.specs.Path.{refusal_of}
+use Rattle.rep_model.specs.PlanRows.{delivery_plan, deliver_plan}
+use Rattle.rep_model.specs.State.{Route, of, dest, is_flight, flight_of}
+use Rattle.rep_model.specs.Row.{Row}
 use Rattle.rep_model.specs.Rows.{row}
-use Rattle.rep_model.specs.QueueEvents.{Delivery, delivered, failing, delivery_row, with_delivered, flight_forms, deliver_row}
+use Rattle.rep_model.specs.QueueEvents.{Delivery, delivered, failing, with_delivered, flight_forms}
 use Rattle.rep_model.specs.declared.machine.Commit.{Commit}
 use Rattle.rep_model.specs.declared.machine.Flight.{Flight}
 use Rattle.rep_model.specs.declared.machine.Form.{Form}
@@ -26,8 +28,9 @@ use Rattle.rep_laws.proofs.Cited.{flights_are_commits}
 use Rattle.rep_laws.proofs.CitedMore.{flight_is_slot, flight_0_is_none}
 use Rattle.rep_laws.proofs.Lists.{In, in_all, found_in, All_weaker}
 use Rattle.rep_laws.proofs.Numbering.{Numbered, length_mapped}
-use Rattle.rep_laws.proofs.Sides.{twice, of_flights}
-use Rattle.rep_laws.proofs.Steady.{steady_journal}
+use Rattle.rep_laws.proofs.Citing.{is_refused}
+use Rattle.rep_laws.proofs.Sides.{of_flights}
+use Rattle.rep_laws.proofs.Steady.{steady_run}
 use Rattle.cluster_core.specs.declared.parts.ClusterCore.{ClusterCore}
 use Rattle.cluster_core.specs.declared.parts.CoreError.{CoreError}
 use Rattle.cluster_core.specs.declared.parts.CoreError.TheVariants as failed
@@ -35,9 +38,8 @@ use Rattle.cluster_core.specs.declared.parts.Sent.{Sent}
 use Rattle.cluster_core.specs.Does.{Reached, sent_of, Flies, FliesOr}
 use Rattle.cluster_core.specs.Entries.{entry_of}
 use Rattle.cluster_core.specs.Stands.{Stands}
-use Rattle.cluster_core.proofs.Answering.{refused}
 use Rattle.arrival_events.specs.Arriving.{MayArrive}
-use Rattle.arrival_events.specs.Delivering.{IsSink, IsPlace, Delivers, DeliversOr}
+use Rattle.arrival_events.specs.Delivering.{IsFor, IsSink, IsPlace, Delivers, DeliversOr}
 use Rattle.arrival_events.proofs.Forms.{forms_may}
 
 -- ---- flights by place
@@ -56,96 +58,98 @@ replace_slot f n (x ∷ xs) (suc k) y a h =
     ∙ ap (λ zs. x ∷ zs) (ap (λ j. replace (λ z. f z == j) y xs) e ∙ replace_slot f (suc n) xs k y a.1 less)
 
 -- a flight of memory's is one of the state's
-mapped : (o : Option Flight) (s : Sent) → option_map sent_of o ≡ Some s → (f : Flight) × (o ≡ Some f) × (s ≡ sent_of f)
-mapped None s e = absurd (none-some s e)
-mapped (Some f) s e = (f, refl, sym (same_Some (sent_of f) s e))
+mapped : (way : Route) (o : Option Flight) (s : Sent) → option_map (sent_of way) o ≡ Some s → (f : Flight) × (o ≡ Some f) × (s ≡ sent_of way f)
+mapped way None s e = absurd (none-some s e)
+mapped way (Some f) s e = (f, refl, sym (same_Some (sent_of way f) s e))
 
-unmapped : (o : Option Flight) → option_map sent_of o ≡ None → o ≡ None
-unmapped None e = refl
-unmapped (Some f) e = absurd (none-some (sent_of f) (sym e))
+unmapped : (way : Route) (o : Option Flight) → option_map (sent_of way) o ≡ None → o ≡ None
+unmapped way None e = refl
+unmapped way (Some f) e = absurd (none-some (sent_of way f) (sym e))
 
-slot_is : (m : Machine) → Reached m → (at : ℕ) → slice_get (map sent_of m.flights) at ≡ option_map sent_of (flight_of (suc at) m)
-slot_is m r at = slice_get-map sent_of m.flights at ∙ ap (option_map sent_of) (sym (subst (λ (w : Machine). find (is_flight (suc at)) w.flights ≡ slice_get w.flights at) r.2 (flight_is_slot r.0 r.1 at)))
+slot_is : {way : Route} (m : Machine) → Reached way m → (at : ℕ) → slice_get (map (sent_of way) m.flights) at ≡ option_map (sent_of way) (flight_of (suc at) m)
+slot_is {way} m r at =
+    slice_get-map (sent_of way) m.flights at
+    ∙ ap (option_map (sent_of way)) (sym (subst (λ (w : Machine). find (is_flight (suc at)) w.flights ≡ slice_get w.flights at) r.leads (flight_is_slot way r.steps r.legal at)))
 
-module _ (own : Cluster) (c : Contents) (core : ClusterCore) (fs : List Sent) (k : ℕ) (m : Machine) (sink : IsSink own c core fs k m) where
-  pair : is_paired own ≡ true
-  pair = sink.stands.paired
-
+module _ {way : Route} (own : Cluster) (c : Contents) (core : ClusterCore) (fs : List Sent) (k : ℕ) (m : Machine) (sink : IsSink way own c core fs k m) where
   not_there : IsPlace k fs None → (n : ℕ) → k ≡ n → flight_of n m ≡ None
-  not_there none zero e = subst (λ (w : Machine). find (is_flight 0) w.flights ≡ None) sink.reached.2 (flight_0_is_none sink.reached.0 sink.reached.1)
-  not_there none (suc at) e = unmapped (flight_of (suc at) m) (sym (slot_is m sink.reached at) ∙ (ap (λ gs. slice_get gs at) (sym sink.flights_are) ∙ none at e))
+  not_there none zero e = subst (λ (w : Machine). find (is_flight 0) w.flights ≡ None) sink.reached.leads (flight_0_is_none way sink.reached.steps sink.reached.legal)
+  not_there none (suc at) e = unmapped way (flight_of (suc at) m) (sym (slot_is m sink.reached at) ∙ (ap (λ gs. slice_get gs at) (sym sink.flights_are) ∙ none at e))
 
   -- no such flight
-  pub no_flight : IsPlace k fs None → Flies own (row (event.Deliver k) (reply.Refused refusal.NoFlight) m) m c core fs (reply.Refused refusal.NoFlight)
-  unfolding deliver_row
+  pub no_flight : IsPlace k fs None → Flies way own (row way (event.Deliver k) (reply.Refused refusal.NoFlight) m) m c core fs (reply.Refused refusal.NoFlight)
+  unfolding deliver_plan
   no_flight none =
-      let is : row (event.Deliver k) (reply.Refused refusal.NoFlight) m ≡ answers (reply.Refused refusal.NoFlight) m =
-      refused (first ((is_none (flight_of k m), refusal.NoFlight) ∷ [])) refusal.NoFlight m _ (ap (λ (o : Option Flight). first ((is_none o, refusal.NoFlight) ∷ [])) (not_there none k refl)) in
-      subst (λ (r : Row). Flies own r m c core fs (reply.Refused refusal.NoFlight)) (sym is) (record { reply_is = refl; stands = sink.stands; beside = refl; flights_are = sink.flights_are })
+      let said : Reply = reply.Refused refusal.NoFlight in
+      let why : refusal_of (deliver_plan way k said m) ≡ Some refusal.NoFlight = rw (not_there none k refl) refl in
+      subst (λ (r : Row). Flies way own r m c core fs said) (sym (is_refused (deliver_plan way k said m) refusal.NoFlight said m why))
+      (record { reply_is = refl; stands = sink.stands; beside = λ d n. refl; flights_are = sink.flights_are })
 
   -- the flight at a place
-  pub flight_at : (at : ℕ) (s : Sent) → k ≡ suc at → slice_get fs at ≡ Some s → (f : Flight) × (flight_of k m ≡ Some f) × (s ≡ sent_of f)
+  pub flight_at : (at : ℕ) (s : Sent) → k ≡ suc at → slice_get fs at ≡ Some s → (f : Flight) × (flight_of k m ≡ Some f) × (s ≡ sent_of way f)
   flight_at at s number got =
-      let h = mapped (flight_of (suc at) m) s (sym (slot_is m sink.reached at) ∙ (ap (λ gs. slice_get gs at) (sym sink.flights_are) ∙ got)) in
+      let h = mapped way (flight_of (suc at) m) s (sym (slot_is m sink.reached at) ∙ (ap (λ gs. slice_get gs at) (sym sink.flights_are) ∙ got)) in
       (h.0, ap (λ n. flight_of n m) number ∙ h.1, h.2)
 
   module _ (f : Flight) (there : flight_of k m ≡ Some f) where
-    source : f.cluster ≡ other own
-    source = subst (λ (o : Option Flight). IfSome o (λ (g : Flight). g.cluster ≡ other own)) there sink.sent_here
-
-    sink_is : other f.cluster ≡ own
-    sink_is = ap other source ∙ sym (twice own pair)
+    source : IsFor way own m f
+    source = subst (λ (o : Option Flight). IfSome o (IsFor way own m)) there sink.sent_here
 
     -- its forms may arrive
-    pub may_arrive : AllByRecursion MayArrive (flight_forms f)
+    pub may_arrive : AllByRecursion MayArrive (flight_forms way f)
     may_arrive =
         let i : In f m.flights = found_in (is_flight k) m.flights f there in
         let commits : AllByRecursion (λ (x : Commit). In x (of f.cluster m).commits) f.entries =
-        subst (λ (w : Machine). In f w.flights → AllByRecursion (λ (x : Commit). In x (of f.cluster w).commits) f.entries) sink.reached.2 (λ j. flights_are_commits sink.reached.0 sink.reached.1 f j) i in
-        let framed : AllByRecursion (λ (x : Commit). HasFrame (entry_of x)) (of f.cluster m).commits = subst (λ (d : Cluster). AllByRecursion (λ (x : Commit). HasFrame (entry_of x)) (of d m).commits) (sym source) sink.framed in
-        forms_may f.cluster (other f.cluster) f.tables f.entries (All_weaker (λ x j. in_all (λ (y : Commit). HasFrame (entry_of y)) x (of f.cluster m).commits j framed) f.entries commits)
+        subst (λ (w : Machine). In f w.flights → AllByRecursion (λ (x : Commit). In x (of f.cluster w).commits) f.entries) sink.reached.leads
+        (λ j. flights_are_commits way sink.reached.steps sink.reached.legal f j) i in
+        forms_may f.cluster (dest way f.cluster) f.tables f.entries
+        (All_weaker (λ x j. in_all (λ (y : Commit). HasFrame (entry_of y)) x (of f.cluster m).commits j source.framed) f.entries commits)
 
-    row_is : (said : Reply) (d : Delivery) → delivered f.peer f.synchronous own (failing own said) 0 (flight_forms f) m ≡ d → row (event.Deliver k) said m ≡ delivery_row k m d d.stop
-    unfolding deliver_row given
+    abbrev delivery_to : Reply → Cluster → Delivery
+    delivery_to said to = delivered f.peer f.synchronous to (failing to said) 0 (flight_forms way f) m
+
+    row_is : (said : Reply) (d : Delivery) → delivered f.peer f.synchronous own (failing own said) 0 (flight_forms way f) m ≡ d
+        → row way (event.Deliver k) said m ≡ told (delivery_plan k m d d.stop) said m
+    unfolding deliver_plan
     row_is said d is =
-        ap (λ (o : Option Flight). unless (first ((is_none o, refusal.NoFlight) ∷ [])) m
-        (given o (answers reply.Done m) (λ g. delivery_row k m (delivered g.peer g.synchronous (other g.cluster) (failing (other g.cluster) said) 0 (flight_forms g) m) (delivered g.peer g.synchronous (other g.cluster) (failing (other g.cluster) said) 0 (flight_forms g) m).stop))) there
-        ∙ (ap (λ (e : Cluster). delivery_row k m (delivered f.peer f.synchronous e (failing e said) 0 (flight_forms f) m) (delivered f.peer f.synchronous e (failing e said) 0 (flight_forms f) m).stop) sink_is
-        ∙ ap (λ (e : Delivery). delivery_row k m e e.stop) is)
+        ap (λ (o : Option Flight). told (Finds o refusal.NoFlight (λ g.
+        let e = delivered g.peer g.synchronous (dest way g.cluster) (failing (dest way g.cluster) said) 0 (flight_forms way g) m in delivery_plan k m e e.stop)) said m) there
+        ∙ (ap (λ (e : Cluster). told (delivery_plan k m (delivery_to said e) (delivery_to said e).stop) said m) source.to
+        ∙ ap (λ (e : Delivery). told (delivery_plan k m e e.stop) said m) is)
 
     -- a form was stopped
-    pub stopped_flies : (new : Contents) (w : ClusterCore) (arrived : ℕ) (told : List ℕ) (why : Cause) → Delivers own f.peer f.synchronous (flight_forms f) m new w (record { arrived = arrived; acks = told; stop = Some why })
-        → Flies own (row (event.Deliver k) (reply.Stopped arrived told why) m) m new w fs (reply.Stopped arrived told why)
+    pub stopped_flies : (new : Contents) (w : ClusterCore) (arrived : ℕ) (told : List ℕ) (why : Cause) → Delivers own f.peer f.synchronous (flight_forms way f) m new w (record { arrived = arrived; acks = told; stop = Some why })
+        → Flies way own (row way (event.Deliver k) (reply.Stopped arrived told why) m) m new w fs (reply.Stopped arrived told why)
     stopped_flies new w arrived told why d =
-        subst (λ (r : Row). Flies own r m new w fs (reply.Stopped arrived told why)) (sym (row_is (reply.Stopped arrived told why) _ d.delivery))
-        (record { reply_is = ap (λ ks. reply.Stopped arrived ks why) d.acks_are; stands = d.stands; beside = d.beside; flights_are = sink.flights_are ∙ ap (map sent_of) (sym d.flights) })
+        subst (λ (r : Row). Flies way own r m new w fs (reply.Stopped arrived told why)) (sym (row_is (reply.Stopped arrived told why) _ d.delivery))
+        (record { reply_is = ap (λ ks. reply.Stopped arrived ks why) d.acks_are; stands = d.stands; beside = d.beside; flights_are = sink.flights_are ∙ ap (map (sent_of way)) (sym d.flights) })
 
-    marked : (left : Machine) (at : ℕ) → left.flights ≡ m.flights → k ≡ suc at → at < length fs → set fs at (record (sent_of f) { delivered = true }) ≡ map sent_of (with_delivered k left).flights
+    marked : (left : Machine) (at : ℕ) → left.flights ≡ m.flights → k ≡ suc at → at < length fs → set fs at (record (sent_of way f) { delivered = true }) ≡ map (sent_of way) (with_delivered k left).flights
     unfolding given
     marked left at same number less =
         let g : Flight = record f { delivered = true } in
-        let within : at < length m.flights = subst (λ n. at < n) (ap length sink.flights_are ∙ length_mapped sent_of m.flights) less in
-        let numbered : Numbered 1 (map (λ (x : Flight). x.number) m.flights) = subst (λ (w : Machine). Numbered 1 (map (λ (x : Flight). x.number) w.flights)) sink.reached.2 (steady_journal sink.reached.0 sink.reached.1).flights in
+        let within : at < length m.flights = subst (λ n. at < n) (ap length sink.flights_are ∙ length_mapped (sent_of way) m.flights) less in
+        let numbered : Numbered 1 (map (λ (x : Flight). x.number) m.flights) = subst (λ (w : Machine). Numbered 1 (map (λ (x : Flight). x.number) w.flights)) sink.reached.leads (steady_run way sink.reached.steps sink.reached.legal).flights in
         let next : suc at ≡ 1 + at = omega arith in
         let placed : replace (is_flight k) g m.flights ≡ set m.flights at g = ap (λ n. replace (is_flight n) g m.flights) (number ∙ next) ∙ replace_slot (λ (x : Flight). x.number) 1 m.flights at g numbered within in
         let now : (with_delivered k left).flights ≡ replace (is_flight k) g m.flights =
         ap (λ (gs : List Flight). given (find (is_flight k) gs) gs (λ x. replace (is_flight k) (record x { delivered = true }) gs)) same
         ∙ ap (λ (o : Option Flight). given o m.flights (λ x. replace (is_flight k) (record x { delivered = true }) m.flights)) there in
-        ap (λ gs. set gs at (sent_of g)) sink.flights_are ∙ (sym (map-set sent_of m.flights at g) ∙ ap (map sent_of) (sym (now ∙ placed)))
+        ap (λ gs. set gs at (sent_of way g)) sink.flights_are ∙ (sym (map-set (sent_of way) m.flights at g) ∙ ap (map (sent_of way)) (sym (now ∙ placed)))
 
     -- all forms arrived
-    pub all_fly : (new : Contents) (w : ClusterCore) (at arrived : ℕ) (told : List ℕ) (gs : List Sent) → k ≡ suc at → at < length fs → gs ≡ set fs at (record (sent_of f) { delivered = true })
-        → Delivers own f.peer f.synchronous (flight_forms f) m new w (record { arrived = arrived; acks = told; stop = None }) → Flies own (row (event.Deliver k) (reply.All arrived told) m) m new w gs (reply.All arrived told)
+    pub all_fly : (new : Contents) (w : ClusterCore) (at arrived : ℕ) (told : List ℕ) (gs : List Sent) → k ≡ suc at → at < length fs → gs ≡ set fs at (record (sent_of way f) { delivered = true })
+        → Delivers own f.peer f.synchronous (flight_forms way f) m new w (record { arrived = arrived; acks = told; stop = None }) → Flies way own (row way (event.Deliver k) (reply.All arrived told) m) m new w gs (reply.All arrived told)
     all_fly new w at arrived told gs number less is d =
-        subst (λ (r : Row). Flies own r m new w gs (reply.All arrived told)) (sym (row_is (reply.All arrived told) _ d.delivery))
+        subst (λ (r : Row). Flies way own r m new w gs (reply.All arrived told)) (sym (row_is (reply.All arrived told) _ d.delivery))
         (record {
           reply_is = ap (reply.All arrived) d.acks_are;
           stands = subst (Stands own new w) (sym (of_flights own (with_delivered k d.left).flights d.left)) d.stands;
-          beside = of_flights (other own) (with_delivered k d.left).flights d.left ∙ d.beside;
+          beside = λ e n. of_flights e (with_delivered k d.left).flights d.left ∙ d.beside e n;
           flights_are = is ∙ marked d.left at d.flights number less;
         })
 
 -- where memory ran out
-pub unfinished : (own : Cluster) (k : ℕ) (peer : ℕ) (synchronous : Bool) (forms : List Form) (m : Machine) (old : Contents) (core : ClusterCore) (fs : List Sent) (new : Contents) (w : ClusterCore) (e : CoreError) (r : Result Reply CoreError) → r ≡ Err e
-    → DeliversOr own peer synchronous forms m old core new w (Err e) → FliesOr own (event.Deliver k) m old core fs new w fs r
-unfinished own k peer synchronous forms m old core fs new w (failed.Memory changed) r is d = subst (λ (x : Result Reply CoreError). FliesOr own (event.Deliver k) m old core fs new w fs x) (sym is) (λ h. (let q = d h in (q.0, q.1, refl)))
+pub unfinished : {way : Route} (own : Cluster) (k : ℕ) (peer : ℕ) (synchronous : Bool) (forms : List Form) (m : Machine) (old : Contents) (core : ClusterCore) (fs : List Sent) (new : Contents) (w : ClusterCore) (e : CoreError) (r : Result Reply CoreError) → r ≡ Err e
+    → DeliversOr own peer synchronous forms m old core new w (Err e) → FliesOr way own (event.Deliver k) m old core fs new w fs r
+unfinished {way} own k peer synchronous forms m old core fs new w (failed.Memory changed) r is d = subst (λ (x : Result Reply CoreError). FliesOr way own (event.Deliver k) m old core fs new w fs x) (sym is) (λ h. (let q = d h in (q.0, q.1, refl)))

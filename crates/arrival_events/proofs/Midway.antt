@@ -8,8 +8,8 @@ use Rattle.rep_types.specs.declared.ids.Cluster.{Cluster}
 use Rattle.rep_types.specs.declared.state.PlaceOf.{PlaceOf}
 use Rattle.rep_vault.specs.Contents.{Contents}
 use Rattle.rep_model.specs.Keyed.{replace}
-use Rattle.rep_model.specs.State.{of, is_server, is_region}
-use Rattle.rep_model.specs.Words.{is_paired}
+use Rattle.rep_model.specs.State.{Route, of, is_server, is_region}
+use Rattle.rep_model.specs.Words.{is_in}
 use Rattle.rep_model.specs.Commits.{commit_count, pending_count}
 use Rattle.rep_model.specs.Places.{serves, on_at}
 use Rattle.rep_model.specs.declared.machine.Commit.{Commit}
@@ -26,7 +26,7 @@ use Rattle.rep_laws.proofs.Lists.{In, in_all, found_in, All_weaker, All_found}
 use Rattle.rep_laws.proofs.LogsPart.{Logged, logged_at, act_logged}
 use Rattle.rep_laws.proofs.PromisePart.{Promises, act_promises}
 use Rattle.rep_laws.proofs.SeatPart.{SeatIn, Seats, Works, seats_at, region_found, act_seats}
-use Rattle.rep_laws.proofs.Steady.{Steady, steady_journal}
+use Rattle.rep_laws.proofs.Steady.{Steady, steady_run}
 use Rattle.rep_laws.proofs.Steps.{numbers_replaced}
 use Rattle.cluster_core.specs.declared.parts.Index.{Index}
 use Rattle.cluster_core.specs.declared.parts.Station.{Station}
@@ -79,10 +79,10 @@ turned_orderly side next C ws o grown placed dead fits = record {
   recorded = All_weaker (λ (p : Peer) h. All_weaker (λ (x : Commit) g. upto x.seq (commit_count x.region.number side.commits) (commit_count x.region.number C) g (grown.counted x.region.number)) p.recorded h) side.peers o.recorded;
 }
 
-pub midway_first : (own : Cluster) → is_paired own ≡ true → (m : Machine) → Reached m → IsMidway own m
-midway_first own pair m reached =
-    let steady : Steady m = subst (λ (k : Machine). Steady k) reached.2 (steady_journal reached.0 reached.1) in
-    record { seats = steady.seats; promises = steady.promises; logged = steady.logged; orderly = orderly own pair m reached }
+pub midway_first : {way : Route} (own : Cluster) → is_in way own ≡ true → (m : Machine) → Reached way m → IsMidway own m
+midway_first {way} own inside m reached =
+    let steady : Steady way m = subst (λ (k : Machine). Steady way k) reached.leads (steady_run way reached.steps reached.legal) in
+    record { route = way; inside = inside; seats = steady.seats; promises = steady.promises; logged = steady.logged; orderly = orderly own inside m reached }
 
 -- what acts keep of that
 record Keeps (m : Machine) : Type 0 where
@@ -90,7 +90,7 @@ record Keeps (m : Machine) : Type 0 where
   pub promises : Promises m
   pub logged : Logged m
 
-acts_keep : (m new : Machine) → Acts m new → Keeps m → Keeps new
+acts_keep : {r : Route} (m new : Machine) → Acts r m new → Keeps m → Keeps new
 acts_keep m new Nothing k = k
 acts_keep m new (After xs x) k = let mid = acts_keep m _ xs k in record {
   seats = act_seats _ _ x mid.seats;
@@ -99,12 +99,12 @@ acts_keep m new (After xs x) k = let mid = acts_keep m _ xs k in record {
 }
 
 -- so it is with a state that acts lead to, where a server of the cluster stands so, and there are more commits
-pub midway_next : (own : Cluster) → is_paired own ≡ true → (m after : Machine) (next : Server) (C : List Commit) (ws : List Written) → IsMidway own m → Acts m after
+pub midway_next : (own : Cluster) (m after : Machine) (next : Server) (C : List Commit) (ws : List Written) (way : IsMidway own m) → Acts way.route m after
     → of own after ≡ record (of own m) { commits = C; written = ws; servers = replace (is_server next.number) next (of own m).servers } → Grown (of own m).commits C → ArePlaced (of own m).regions next.number next.pending → (next.sealed ≡ true → next.live ≡ false) → IsMidway own after
-midway_next own pair m after next C ws way acts is grown placed dead =
+midway_next own m after next C ws way acts is grown placed dead =
     let keeps : Keeps after = acts_keep m after acts (record { seats = way.seats; promises = way.promises; logged = way.logged }) in
-    let fits : AllByRecursion (FitsLog C) (replace (is_server next.number) next (of own m).servers) = subst (λ (s : Side). AllByRecursion (FitsLog s.commits) s.servers) is (logged_at own pair after keeps.logged).room in
-    record { seats = keeps.seats; promises = keeps.promises; logged = keeps.logged; orderly = subst IsOrderly (sym is) (turned_orderly (of own m) next C ws way.orderly grown placed dead fits) }
+    let fits : AllByRecursion (FitsLog C) (replace (is_server next.number) next (of own m).servers) = subst (λ (s : Side). AllByRecursion (FitsLog s.commits) s.servers) is (logged_at own after keeps.logged).room in
+    record { route = way.route; inside = way.inside; seats = keeps.seats; promises = keeps.promises; logged = keeps.logged; orderly = subst IsOrderly (sym is) (turned_orderly (of own m) next C ws way.orderly grown placed dead fits) }
 
 -- ---- a seat
 
@@ -121,9 +121,9 @@ not_sealed false live lives dead = refl
 its_number : (r : ℕ) → 1 ≤ r → suc (r - 1) ≡ r
 its_number r least = omega arith
 
-module _ (own : Cluster) (pair : is_paired own ≡ true) (m : Machine) (way : IsMidway own m) (files : Contents) (stations : List Station) (table row : List ℕ) (region at : ℕ) (k : HasSeat files (of own m) stations table row region at) where
+module _ (own : Cluster) (m : Machine) (way : IsMidway own m) (files : Contents) (stations : List Station) (table row : List ℕ) (region at : ℕ) (k : HasSeat files (of own m) stations table row region at) where
   seats : SeatIn (of own m)
-  seats = seats_at own pair m way.seats
+  seats = seats_at own m way.seats
 
   hosted_in : In k.hosted (of own m).regions
   hosted_in = found_in (serves table row) (of own m).regions k.hosted k.located

@@ -22,8 +22,7 @@ use Rattle.cluster_core.specs.declared.entering.EntryError.TheVariants.{Broken, 
 use Rattle.cluster_core.specs.Entering.{MayEnter, Enters}
 use Rattle.region_server.specs.Host.{Stands as HostStands}
 use Rattle.rep_model.specs.Keyed.{given}
-use Rattle.rep_model.specs.State.{of, other, is_server}
-use Rattle.rep_model.specs.Words.{is_paired}
+use Rattle.rep_model.specs.State.{of, is_server}
 use Rattle.rep_model.specs.Changes.{takes_pending}
 use Rattle.rep_model.specs.Commits.{commit_count, pending_count}
 use Rattle.rep_model.specs.Peers.{is_standby}
@@ -31,7 +30,7 @@ use Rattle.rep_model.specs.Places.{Seat, seat, located_number, capped, used, lac
 use Rattle.rep_model.specs.Row.{site, is_site}
 use Rattle.rep_model.specs.Tickets.{newly, is_acknowledged}
 use Rattle.rep_model.specs.LogEvents.{emptied, broken_by, synced_with}
-use Rattle.rep_model.specs.QueueEvents.{Delivery, arrival, arrives, fails_at, failing_by, stopped}
+use Rattle.rep_model.specs.QueueEvents.{Delivery, arrival, arrives, comes, finds, fails_at, failing_by, stopped}
 use Rattle.rep_model.specs.declared.faults.Failing.{Failing}
 use Rattle.rep_model.specs.declared.faults.Site.{Site}
 use Rattle.rep_model.specs.declared.machine.Machine.{Machine}
@@ -108,20 +107,8 @@ sync_fails c n i = ap (λ (o : Option Site). given o None (λ _. fault_at i (Som
 
 -- ---- where nothing is done
 
-abbrev comes : ℕ → Form → Cluster → ℕ → Option Cause → Seat → Machine → (Machine → Delivery) → Delivery
-comes p form c i None x m rest = rest (synced_with c x.server (arrival p x form ∷ []) m)
-comes p form c i (Some why) x m rest = stopped (broken_by c x.server (arrival p x form) m) i why
-
-abbrev finds : ℕ → Form → Cluster → ℕ → Option Failing → Option Seat → Machine → (Machine → Delivery) → Delivery
-finds p form c i failed None m rest = stopped m i (cause.NotServing (located_number c form.edit.table form.edit.row m))
-finds p form c i failed (Some x) m rest =
-    if not x.server.whole then stopped m i (cause.Broken x.server.log) else
-    (if lacks_room c x.server (frame_length (kind.Write form.edit)) m
-    then stopped m i (cause.NeedRoll x.server.number (capped (used c x.server m)) (frame_length (kind.Write form.edit)))
-    else comes p form c i (fails_at failed i) x m rest)
-
 pub still : (own : Cluster) (c : Contents) (core : ClusterCore) (m : Machine) → IsMidway own m → Stands own c core (of own m) → Leaves own m [] m c core
-still own c core m way stands = record { midway = way; stands = stands; beside = refl; flights = refl; waited = λ before w. w; acks = λ before w. refl }
+still own c core m way stands = record { midway = way; stands = stands; beside = λ d n. refl; flights = refl; waited = λ before w. w; acks = λ before w. refl }
 
 -- a synchronous peer's form
 pub wrong_state : (own : Cluster) (c : Contents) (core : ClusterCore) (m : Machine) (peer : ℕ) (form : Form) → IsMidway own m → Stands own c core (of own m) → Arrives own peer true form m c core c core (Ok (Stopped (cause.WrongState sync.Absent phase.Idle)))
@@ -153,10 +140,10 @@ waits_at own ts live ps lives a x i k e =
     (q.0, (ticket_of own true, q.1 ∙ ap (λ b. Some (ticket_of own b)) lives, refl))
 
 -- those of a live server's pending entries are acknowledged, where these are committed without a link
-acknowledged : (own : Cluster) → is_paired own ≡ true → (m : Machine) (v : Server) → IsMidway own m → In v (of own m).servers → v.live ≡ true → (before : List Ticket) → Waited before m.tickets
+acknowledged : (own : Cluster) (m : Machine) (v : Server) → IsMidway own m → In v (of own m).servers → v.live ≡ true → (before : List Ticket) → Waited before m.tickets
     → Waited before (plain_from 1 (tickets_of v.pending) m.tickets) × (newly is_acknowledged 1 before (plain_from 1 (tickets_of v.pending) m.tickets) ≡ fold put_in (newly is_acknowledged 1 before m.tickets) (tickets_of v.pending))
-acknowledged own pair m v way i lives before w =
-    let promises : PromiseSide own (of own m).servers m.tickets = promises_at own pair m way.promises in
+acknowledged own m v way i lives before w =
+    let promises : PromiseSide own (of own m).servers m.tickets = promises_at own m way.promises in
     let waits = waits_at own m.tickets v.live v.pending lives (in_all (AllPromised own m.tickets) v (of own m).servers i promises.promised) in
     told_all 1 (tickets_of v.pending) before m.tickets (le_refl 1)
     (ascending 1 v.pending (in_all (λ (u : Server). Rises u.pending) v (of own m).servers i promises.rising) (λ x j k e. (waits x j k e).0))
@@ -173,31 +160,28 @@ module _ (own : Cluster) (old : Contents) (core : ClusterCore) (m : Machine) (fo
   abbrev waits : Pending
   waits = arrival peer (record { server = k.station.server; region = k.hosted.region }) form
 
-  pair : is_paired own ≡ true
-  pair = stands.paired
-
   sealed : k.station.server.sealed ≡ false
-  sealed = seat_is_open own pair m way old core.stations form.edit.table form.edit.row region at k
+  sealed = seat_is_open own m way old core.stations form.edit.table form.edit.row region at k
 
   lives : k.station.server.live ≡ true
-  lives = seat_lives own pair m way old core.stations form.edit.table form.edit.row region at k
+  lives = seat_lives own m way old core.stations form.edit.table form.edit.row region at k
 
   known : find (is_server k.station.server.number) (of own m).servers ≡ Some k.station.server
   known = subst (λ n. find (is_server n) (of own m).servers ≡ Some k.station.server) (sym k.station.number) k.station.known
 
   seq_is : seq ≡ commit_count k.hosted.region.number (of own m).commits + pending_count k.hosted.region.number k.station.server.pending + 1
-  seq_is = seat_next own pair m way old core.stations form.edit.table form.edit.row region at k core.index seq stands.index id
+  seq_is = seat_next own m way old core.stations form.edit.table form.edit.row region at k core.index seq stands.index id
 
   entry_is : arriving_entry region seq peer form ≡ next_entry (of own m).commits k.station.server.pending waits
   entry_is = λ i. record { region = sym k.number i; seq = seq_is i; kind = kind.Write form.edit; marks = form.marks; origin = Some (record { peer = peer; entry = form.source }) }
 
   its_place : IsPlaced (of own m).regions k.on k.hosted.region.number
-  its_place = subst (IsPlaced (of own m).regions k.on) (sym k.number) (seat_place own pair m way old core.stations form.edit.table form.edit.row region at k)
+  its_place = subst (IsPlaced (of own m).regions k.on) (sym k.number) (seat_place own m way old core.stations form.edit.table form.edit.row region at k)
 
   all_placed : ArePlaced (of own m).regions k.station.server.number (k.station.server.pending ++ waits ∷ [])
   all_placed =
       All_append (λ (q : Pending). IsPlaced (of own m).regions k.station.server.number q.region.number) k.station.server.pending (waits ∷ [])
-      (seat_pending own pair m way old core.stations form.edit.table form.edit.row region at k)
+      (seat_pending own m way old core.stations form.edit.table form.edit.row region at k)
       (subst (λ s. IsPlaced (of own m).regions s k.hosted.region.number) (sym k.station.number) its_place, tt)
 
   stays : (new : Contents) (core' : ClusterCore) → core' ≡ core → new ≡ old → Stands own new core' (of own m)
@@ -247,11 +231,11 @@ module _ (own : Cluster) (old : Contents) (core : ClusterCore) (m : Machine) (fo
   failed_is = of_with own (standing_so (takes_pending waits false k.station.server) (of own m)) m
 
   dead : k.station.server.sealed ≡ true → k.station.server.live ≡ false
-  dead = seat_dead own pair m way old core.stations form.edit.table form.edit.row region at k
+  dead = seat_dead own m way old core.stations form.edit.table form.edit.row region at k
 
   failed_midway : used own k.station.server m + frame_length (kind.Write form.edit) ≤ 65536 → IsMidway own failed_state
   failed_midway room =
-      midway_next own pair m failed_state (takes_pending waits false k.station.server) (of own m).commits (of own m).written way (act (EntryPends own pair k.station.server waits false served room refl titled)) failed_is
+      midway_next own m failed_state (takes_pending waits false k.station.server) (of own m).commits (of own m).written way (act (EntryPends own way.inside k.station.server waits false served room refl titled)) failed_is
       (grown_same (of own m).commits) all_placed dead
 
   fails : (c : Contents) (w : ClusterCore) (why : Cause) → fault_of why ≡ Some why → ((i : ℕ) → failing_by own i why ≡ fault_at i (Some why)) → not k.station.server.whole ≡ false → used own k.station.server m + frame_length (kind.Write form.edit) ≤ 65536
@@ -263,7 +247,7 @@ module _ (own : Cluster) (old : Contents) (core : ClusterCore) (m : Machine) (fo
     record {
       midway = failed_midway room;
       stands = subst (Stands own c w) (sym failed_is) left;
-      beside = beside_with own (standing_so (takes_pending waits false k.station.server) (of own m)) m pair;
+      beside = beside_with own (standing_so (takes_pending waits false k.station.server) (of own m)) m;
       flights = flights_with own (standing_so (takes_pending waits false k.station.server) (of own m)) m;
       waited = λ before u. subst (Waited before) (sym (tickets_with own (standing_so (takes_pending waits false k.station.server) (of own m)) m)) u;
       acks = λ before u. ap (newly is_acknowledged 1 before) (tickets_with own (standing_so (takes_pending waits false k.station.server) (of own m)) m);
@@ -296,7 +280,7 @@ module _ (own : Cluster) (old : Contents) (core : ClusterCore) (m : Machine) (fo
 
   done_midway : used own k.station.server m + frame_length (kind.Write form.edit) ≤ 65536 → IsMidway own done_state
   done_midway room =
-      midway_next own pair m done_state (emptied k.station.server) done_side.commits done_side.written way (synced_one own pair k.station.server waits m served room refl titled) done_of
+      midway_next own m done_state (emptied k.station.server) done_side.commits done_side.written way (synced_one own way.inside k.station.server waits m served room refl titled) done_of
       (grown_more (of own m).commits (coming k.station.server.number k.station.server.log (of own m).commits (k.station.server.pending ++ waits ∷ []))) tt dead
 
   -- ---- by what became of the entry
@@ -305,13 +289,13 @@ module _ (own : Cluster) (old : Contents) (core : ClusterCore) (m : Machine) (fo
   unfolding given
   by_entry new core' (Ok acks) t =
       let kept : acks ≡ tickets_of k.station.server.pending = t.2 ∙ ap (λ b. waiting b (tickets_of k.station.server.pending)) lives in
-      let acked = acknowledged own pair m k.station.server way (found_in (is_server k.on) (of own m).servers k.station.server k.station.known) lives in (
+      let acked = acknowledged own m k.station.server way (found_in (is_server k.on) (of own m).servers k.station.server k.station.known) lives in (
         done_state,
         λ i failed rest e. room_is_there (ap not t.0) (room_is (used own k.station.server m) (frame_length (kind.Write form.edit)) t.1) i failed rest ∙ ap (λ (o : Option Cause). comes peer form own i o there m rest) e,
         record {
           midway = done_midway t.1;
           stands = subst (Stands own new core') (sym done_of) t.3;
-          beside = ap (of (other own)) done_is ∙ beside_left own done_side done_tickets m pair;
+          beside = λ d n. ap (of d) done_is ∙ beside_left own done_side done_tickets m d n;
           flights = ap (λ (n : Machine). n.flights) done_is ∙ flights_left own done_side done_tickets m;
           waited = λ before v. subst (Waited before) (sym told_are) (acked before v).0;
           acks = λ before v. ap (newly is_acknowledged 1 before) told_are ∙ ((acked before v).1 ∙ ap (fold put_in (newly is_acknowledged 1 before m.tickets)) (sym kept));
@@ -352,11 +336,11 @@ module _ (own : Cluster) (old : Contents) (core : ClusterCore) (m : Machine) (fo
       subst (λ (x : Result Arrived CoreError). Arrives own peer false form m old core new core' x) (sym (told ∙ (λ i. arrived_by own (server i) (log i) r))) (by_entry new core' r t)
 
 -- the host at a seat stands
-pub seat_host : (own : Cluster) (old : Contents) (core : ClusterCore) (m : Machine) (table row : List ℕ) (region at : ℕ) → is_paired own ≡ true → IsMidway own m → HasSeat old (of own m) core.stations table row region at
+pub seat_host : (own : Cluster) (old : Contents) (core : ClusterCore) (m : Machine) (table row : List ℕ) (region at : ℕ) → IsMidway own m → HasSeat old (of own m) core.stations table row region at
     → (st : Station) → slice_get core.stations at ≡ Some st → HostStands old st.host
-seat_host own old core m table row region at pair way k st got =
+seat_host own old core m table row region at way k st got =
     let same : k.station.station ≡ st = same_Some k.station.station st (sym k.station.there ∙ got) in
-    subst (λ (x : Station). HostStands old x.host) same (log_of (of own m).commits k.station.server, hosts old (of own m) core.stations k.on at k.station (seat_is_open own pair m way old core.stations table row region at k))
+    subst (λ (x : Station). HostStands old x.host) same (log_of (of own m).commits k.station.server, hosts old (of own m) core.stations k.on at k.station (seat_is_open own m way old core.stations table row region at k))
 
 seq_least : (seq n : ℕ) → seq ≡ n + 1 → 1 ≤ seq
 seq_least seq n e = omega arith

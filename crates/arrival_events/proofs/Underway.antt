@@ -1,27 +1,50 @@
 -- A delivery goes on by one form, stops at one, or ends.
-use Rattle.std.proofs.Common.{ℕ, zero, suc, ◌+◌, ◌<◌, ◌≤◌, ◌≡◌, Bool, cond, List, [], ◌∷◌, fold, length, drop, get_or, Option, Some, None, Result, Ok, refl, ap, sym, ◌∙◌, subst, arith, eq-eqb, ne_eqb}
+use Rattle.std.proofs.Common.{ℕ, zero, suc, ◌+◌, ◌<◌, ◌≤◌, ◌≡◌, Bool, cond, List, [], ◌∷◌, fold, length, drop, get_or, drop-cons, add-one, Option, Some, None, Result, Ok, refl, ap, sym, ◌∙◌, subst, arith, eq-eqb, ne_eqb}
 use Rattle.std.specs.List.{AllByRecursion}
 use Rattle.rep_types.specs.declared.ids.Cluster.{Cluster}
 use Rattle.rep_types.specs.declared.reply.Cause.{Cause}
 use Rattle.rep_vault.specs.Contents.{Contents}
 use Rattle.rep_vault.specs.Tallies.{Tally}
+use Rattle.rep_model.specs.Keyed.{given}
 use Rattle.rep_model.specs.State.{of}
-use Rattle.rep_model.specs.QueueEvents.{delivered, fails_at}
+use Rattle.rep_model.specs.QueueEvents.{arrives, delivered, fails_at, stopped}
 use Rattle.rep_model.specs.declared.faults.Failing.{Failing}
 use Rattle.rep_model.specs.declared.machine.Form.{Form}
 use Rattle.rep_model.specs.declared.machine.Machine.{Machine}
-use Rattle.rep_model.proofs.Arriving.{delivered-goes, delivered-stops}
 use Rattle.cluster_core.specs.declared.parts.ClusterCore.{ClusterCore}
 use Rattle.cluster_core.specs.declared.parts.CoreError.{CoreError}
 use Rattle.cluster_core.specs.Does.{Counts}
 use Rattle.cluster_core.specs.Stands.{Stands}
 use Rattle.arrival_events.specs.Acks.{put_in}
-use Rattle.arrival_events.specs.Arriving.{IsMidway, fault_of, fault_at, Arrives}
+use Rattle.arrival_events.specs.Arriving.{IsMidway, Takes, fault_of, fault_at, Arrives}
 use Rattle.arrival_events.specs.Delivering.{Delivers}
 use Rattle.arrival_events.specs.Underway.{IsUnderway}
 use Rattle.arrival_events.specs.declared.arriving.Arrived.{Arrived}
 use Rattle.arrival_events.specs.declared.arriving.Arrived.TheVariants.{Taken, Stopped}
 use Rattle.arrival_events.proofs.Merging.{waited_self, nothing_new}
+
+-- ---- one form at a time
+
+-- a delivery goes on by the form at a place
+at_place : (p : ℕ) (synchronous : Bool) (c : Cluster) (failed : Option Failing) (i at : ℕ) (forms : List Form) (d : Form) (m : Machine) → at < length forms
+    → delivered p synchronous c failed i (drop at forms) m ≡ arrives p synchronous (get_or forms at d) c i failed m (delivered p synchronous c failed (i + 1) (drop (at + 1) forms))
+at_place p synchronous c failed i at forms d m h = rw (add-one at, drop-cons forms at d) refl
+
+-- it stops there
+stops : (p : ℕ) (synchronous : Bool) (c : Cluster) (failed : Option Failing) (fails : Option Cause) (i at : ℕ) (forms : List Form) (form : Form) (m after : Machine) (why : Cause)
+    → at < length forms → form ≡ get_or forms at form → fails_at failed i ≡ fails → Takes p synchronous form c fails m (Some why) after
+    → delivered p synchronous c failed i (drop at forms) m ≡ stopped after i why
+unfolding given
+stops p synchronous c failed fails i at forms form m after why h is there takes =
+    at_place p synchronous c failed i at forms form m h ∙ rw (← is) (takes i failed (delivered p synchronous c failed (i + 1) (drop (at + 1) forms)) there)
+
+-- or goes on from what the form left
+goes_on : (p : ℕ) (synchronous : Bool) (c : Cluster) (failed : Option Failing) (fails : Option Cause) (i at : ℕ) (forms : List Form) (form : Form) (m after : Machine)
+    → at < length forms → form ≡ get_or forms at form → fails_at failed i ≡ fails → Takes p synchronous form c fails m None after
+    → delivered p synchronous c failed i (drop at forms) m ≡ delivered p synchronous c failed (i + 1) (drop (at + 1) forms) after
+unfolding given
+goes_on p synchronous c failed fails i at forms form m after h is there takes =
+    at_place p synchronous c failed i at forms form m h ∙ rw (← is) (takes i failed (delivered p synchronous c failed (i + 1) (drop (at + 1) forms)) there)
 
 pub all_at : {X : Type 0} (P : X → Type 0) (xs : List X) (at : ℕ) (d : X) → at < length xs → AllByRecursion P xs → P (get_or xs at d)
 all_at P [] at d h a = absurd (omega arith)
@@ -57,7 +80,7 @@ begun own peer synchronous forms m c core way stands = record {
   now = m;
   midway = way;
   stands = stands;
-  beside = refl;
+  beside = λ d n. refl;
   flights = refl;
   waited = waited_self m.tickets;
   acks_are = sym (nothing_new 1 m.tickets);
@@ -71,11 +94,11 @@ module _ (own : Cluster) (peer : ℕ) (synchronous : Bool) (forms : List Form) (
     now = a.0;
     midway = a.2.midway;
     stands = a.2.stands;
-    beside = a.2.beside ∙ u.beside;
+    beside = λ d n. a.2.beside d n ∙ u.beside d n;
     flights = a.2.flights ∙ u.flights;
     waited = a.2.waited m.tickets u.waited;
     acks_are = added ∙ (ap (λ xs. fold put_in xs tickets) u.acks_are ∙ sym (a.2.acks m.tickets u.waited));
-    goes = λ failed h. u.goes failed (λ j g. h j (up_one j at g)) ∙ delivered-goes peer synchronous own failed None at at forms form u.now a.0 less is (h at (last_one at)) a.1;
+    goes = λ failed h. u.goes failed (λ j g. h j (up_one j at g)) ∙ goes_on peer synchronous own failed None at at forms form u.now a.0 less is (h at (last_one at)) a.1;
   }
 
   pub stopped_at : (form : Form) (c : Contents) (w : ClusterCore) (why : Cause) → at < length forms → form ≡ get_or forms at form → Arrives own peer synchronous form u.now old core c w (Ok (Stopped why))
@@ -84,9 +107,9 @@ module _ (own : Cluster) (peer : ℕ) (synchronous : Bool) (forms : List Form) (
     left = a.0;
     delivery = ap (λ (f : Option Failing). delivered peer synchronous own f 0 forms m) (a.3 at)
         ∙ (u.goes (fault_at at (fault_of why)) (earlier at (fault_of why))
-        ∙ delivered-stops peer synchronous own (fault_at at (fault_of why)) (fault_of why) at at forms form u.now a.0 why less is (here at (fault_of why)) a.1);
+        ∙ stops peer synchronous own (fault_at at (fault_of why)) (fault_of why) at at forms form u.now a.0 why less is (here at (fault_of why)) a.1);
     stands = a.2.stands;
-    beside = a.2.beside ∙ u.beside;
+    beside = λ d n. a.2.beside d n ∙ u.beside d n;
     flights = a.2.flights ∙ u.flights;
     acks_are = u.acks_are ∙ sym (a.2.acks m.tickets u.waited);
   }

@@ -1,5 +1,5 @@
 -- What the arrival of one form at its destination leaves.
-use Rattle.std.specs.Prelude.{ℕ, ◌≤◌, ◌<◌, ◌^◌, ◌≡◌, Bool, List, [], ◌∷◌, fold, Option, Some, None, Result, Ok, Err}
+use Rattle.std.specs.Prelude.{ℕ, ◌≤◌, ◌<◌, ◌^◌, ◌≡◌, ◌==◌, Bool, List, [], ◌∷◌, fold, Option, Some, None, Result, Ok, Err}
 use Rattle.rep_types.specs.declared.ids.Cluster.{Cluster}
 use Rattle.rep_types.specs.declared.entry.Entry.{Entry}
 use Rattle.rep_types.specs.declared.entry.EntryKind.TheVariants as kind
@@ -8,10 +8,11 @@ use Rattle.rep_types.specs.declared.reply.Cause.TheVariants as cause
 use Rattle.rep_vault.specs.Contents.{Contents}
 use Rattle.rep_vault.specs.Tallies.{Tally}
 use Rattle.wal_entry.specs.Framed.{HasFrame}
-use Rattle.rep_model.specs.State.{of, other}
+use Rattle.rep_model.specs.Keyed.{given}
+use Rattle.rep_model.specs.State.{Route, of, mark}
 use Rattle.rep_model.specs.Tickets.{newly, is_acknowledged}
-use Rattle.rep_model.specs.Delivering.{Takes}
-use Rattle.rep_model.specs.QueueEvents.{failing_by}
+use Rattle.rep_model.specs.QueueEvents.{Delivery, arrives, fails_at, failing_by, stopped}
+use Rattle.rep_model.specs.Words.{is_in}
 use Rattle.rep_model.specs.declared.faults.Failing.{Failing}
 use Rattle.rep_model.specs.declared.machine.Form.{Form}
 use Rattle.rep_model.specs.declared.machine.Machine.{Machine}
@@ -40,6 +41,8 @@ MayArrive form = (peer region seq : ℕ) → 1 ≤ peer → peer ≤ 4 → 1 ≤
 
 -- what holds of a state between two forms, as of one that a legal run reaches
 pub record IsMidway (own : Cluster) (m : Machine) : Type 0 where
+  pub route : Route
+  pub inside : is_in route own ≡ Bool.true
   pub seats : Seats m
   pub promises : Promises m
   pub logged : Logged m
@@ -56,10 +59,16 @@ Waited (u ∷ us) (t ∷ ts) = (t.told ≡ told.Pending → is_acknowledged u.to
 pub record Leaves (own : Cluster) (m : Machine) (tickets : List ℕ) (after : Machine) (c : Contents) (core : ClusterCore) : Type 0 where
   pub midway : IsMidway own after
   pub stands : Stands own c core (of own after)
-  pub beside : of (other own) after ≡ of (other own) m
+  pub beside : (d : Cluster) → (mark d == mark own) ≡ Bool.false → of d after ≡ of d m
   pub flights : after.flights ≡ m.flights
   pub waited : (before : List Ticket) → Waited before m.tickets → Waited before after.tickets
   pub acks : (before : List Ticket) → Waited before m.tickets → newly is_acknowledged 1 before after.tickets ≡ fold put_in (newly is_acknowledged 1 before m.tickets) tickets
+
+-- the form was taken and left this state, or it was stopped there, where this fails at it
+abbrev pub Takes : ℕ → Bool → Form → Cluster → Option Cause → Machine → Option Cause → Machine → Type 0
+Takes p synchronous form c fails m stop after =
+    (i : ℕ) (failed : Option Failing) (rest : Machine → Delivery) → fails_at failed i ≡ fails →
+    arrives p synchronous form c i failed m rest ≡ given stop (rest after) (λ why. stopped after i why)
 
 -- the fault that a cause tells of
 abbrev pub fault_of : Cause → Option Cause

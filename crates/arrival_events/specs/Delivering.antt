@@ -1,16 +1,18 @@
 -- What a delivery leaves, and when a cluster is the one that a flight was sent to.
-use Rattle.std.specs.Prelude.{ℕ, suc, ◌<◌, ◌≡◌, Bool, List, length, map, slice_get, Option, Some, None, IfSome, Result, Ok, Err}
+use Rattle.std.specs.Prelude.{ℕ, suc, ◌<◌, ◌≡◌, ◌==◌, Bool, List, length, map, slice_get, Option, Some, None, IfSome, Result, Ok, Err}
 use Rattle.std.specs.List.{AllByRecursion}
 use Rattle.rep_types.specs.declared.ids.Cluster.{Cluster}
 use Rattle.rep_types.specs.declared.reply.Cause.{Cause}
 use Rattle.rep_vault.specs.Contents.{Contents}
 use Rattle.rep_vault.specs.Tallies.{Tally}
 use Rattle.wal_entry.specs.Framed.{HasFrame}
-use Rattle.rep_model.specs.State.{of, other, flight_of}
+use Rattle.rep_model.specs.State.{Route, of, dest, mark, flight_of}
+use Rattle.rep_model.specs.Words.{is_in}
 use Rattle.rep_model.specs.Tickets.{acks}
 use Rattle.rep_model.specs.QueueEvents.{delivered, failing_by}
 use Rattle.rep_model.specs.declared.faults.Failing.{Failing}
 use Rattle.rep_model.specs.declared.machine.Commit.{Commit}
+use Rattle.rep_model.specs.declared.machine.Flight.{Flight}
 use Rattle.rep_model.specs.declared.machine.Form.{Form}
 use Rattle.rep_model.specs.declared.machine.Machine.{Machine}
 use Rattle.cluster_core.specs.declared.parts.ClusterCore.{ClusterCore}
@@ -22,17 +24,18 @@ use Rattle.cluster_core.specs.Entries.{entry_of}
 use Rattle.cluster_core.specs.Stands.{Stands}
 use Rattle.arrival_events.specs.declared.delivering.Delivered.{Delivered}
 
--- the flight, if it is known, was sent to this cluster
-abbrev pub IsFor : Cluster → ℕ → Machine → Type 0
-IsFor own k m = IfSome (flight_of k m) (λ f. f.cluster ≡ other own)
+-- the flight was sent to this cluster, and the commits of its source have frames
+pub record IsFor (way : Route) (own : Cluster) (m : Machine) (f : Flight) : Type 0 where
+  pub to : dest way f.cluster ≡ own
+  pub framed : AllByRecursion (λ (x : Commit). HasFrame (entry_of x)) (of f.cluster m).commits
 
--- memory and the store stand for a cluster that the flight was sent to; the commits of its source have frames
-pub record IsSink (own : Cluster) (c : Contents) (core : ClusterCore) (flights : List Sent) (k : ℕ) (m : Machine) : Type 0 where
-  pub reached : Reached m
+-- memory and the store stand for a cluster that the flight, if it is known, was sent to
+pub record IsSink (way : Route) (own : Cluster) (c : Contents) (core : ClusterCore) (flights : List Sent) (k : ℕ) (m : Machine) : Type 0 where
+  pub reached : Reached way m
+  pub inside : is_in way own ≡ Bool.true
   pub stands : Stands own c core (of own m)
-  pub flights_are : flights ≡ map sent_of m.flights
-  pub sent_here : IsFor own k m
-  pub framed : AllByRecursion (λ (x : Commit). HasFrame (entry_of x)) (of (other own) m).commits
+  pub flights_are : flights ≡ map (sent_of way) m.flights
+  pub sent_here : IfSome (flight_of k m) (IsFor way own m)
 
 -- which form a fault stopped
 abbrev pub stopped_by : Cluster → ℕ → Option Cause → Option Failing
@@ -44,7 +47,7 @@ pub record Delivers (own : Cluster) (peer : ℕ) (synchronous : Bool) (forms : L
   pub left : Machine
   pub delivery : delivered peer synchronous own (stopped_by own done.arrived done.stop) 0 forms m ≡ record { left = left; arrived = done.arrived; stop = done.stop }
   pub stands : Stands own c core (of own left)
-  pub beside : of (other own) left ≡ of (other own) m
+  pub beside : (d : Cluster) → (mark d == mark own) ≡ Bool.false → of d left ≡ of d m
   pub flights : left.flights ≡ m.flights
   pub acks_are : done.acks ≡ acks m left
 

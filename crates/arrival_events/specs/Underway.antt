@@ -1,8 +1,8 @@
 -- A delivery between two forms.
-use Rattle.std.specs.Prelude.{ℕ, ◌<◌, ◌≡◌, Bool, List, drop, Option, None}
+use Rattle.std.specs.Prelude.{ℕ, ◌<◌, ◌≡◌, ◌==◌, Bool, List, drop, Option, None}
 use Rattle.rep_types.specs.declared.ids.Cluster.{Cluster}
 use Rattle.rep_vault.specs.Contents.{Contents}
-use Rattle.rep_model.specs.State.{of, other}
+use Rattle.rep_model.specs.State.{of, mark}
 use Rattle.rep_model.specs.Tickets.{newly, is_acknowledged}
 use Rattle.rep_model.specs.QueueEvents.{delivered, fails_at}
 use Rattle.rep_model.specs.declared.faults.Failing.{Failing}
@@ -17,7 +17,7 @@ pub record IsUnderway (own : Cluster) (peer : ℕ) (synchronous : Bool) (forms :
   pub now : Machine
   pub midway : IsMidway own now
   pub stands : Stands own c core (of own now)
-  pub beside : of (other own) now ≡ of (other own) m
+  pub beside : (d : Cluster) → (mark d == mark own) ≡ Bool.false → of d now ≡ of d m
   pub flights : now.flights ≡ m.flights
   pub waited : Waited m.tickets now.tickets
   pub acks_are : acks ≡ newly is_acknowledged 1 m.tickets now.tickets

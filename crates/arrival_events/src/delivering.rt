@@ -2,7 +2,7 @@
 ghost use Rattle.std.specs.Prelude.{◌≡◌, ◌<◌, true, IfOk, length, slice_get, slice_set, Some};
 ghost use Rattle.std.specs.List.{AllByRecursion};
 ghost use Rattle.rep_types.specs.declared.event.Event.TheVariants as event;
-ghost use Rattle.rep_model.specs.State.{of};
+ghost use Rattle.rep_model.specs.State.{Route, of};
 ghost use Rattle.rep_model.specs.declared.machine.Machine.{Machine};
 ghost use Rattle.cluster_core.specs.declared.parts.Sent.{Sent};
 ghost use Rattle.cluster_core.specs.Stands.{Stands};
@@ -109,9 +109,9 @@ pub fn deliver<V: Vault>(
     flights: &mut Items<Sent>,
     flight: u32,
 ) -> Result<Reply, CoreError>
-    requires { (m : Machine) × IsSink core.old.own (V.contents own.old) core.old flights.old flight m }
-    ensures does { (m : Machine) → IsSink core.old.own (V.contents own.old) core.old flights.old flight m
-        → FliesOr core.old.own (event.Deliver flight) m (V.contents own.old) core.old flights.old (V.contents own.new) core.new flights.new result }
+    requires { (way : Route) × (m : Machine) × IsSink way core.old.own (V.contents own.old) core.old flights.old flight m }
+    ensures does { (way : Route) (m : Machine) → IsSink way core.old.own (V.contents own.old) core.old flights.old flight m
+        → FliesOr way core.old.own (event.Deliver flight) m (V.contents own.old) core.old flights.old (V.contents own.new) core.new flights.new result }
     ensures counts { Counts (V.tally own.old) (V.tally own.new) }
     ensures told { IfOk result (λ reply. FaultTold core.old.own reply (V.tally own.old) (V.tally own.new)) }
 {

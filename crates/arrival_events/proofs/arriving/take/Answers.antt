@@ -10,7 +10,7 @@ use Rattle.arrival_events.proofs.arriving.take.Goals as goal
 pub commit_entry-done-requires-clause-stands : goal.commit_entry-done-requires-clause-stands
 commit_entry-done-requires-clause-stands g c = λ st there.
     let s = c.requires.seated in
-    seat_host c.args.core.now.own _ c.args.core.now s.0 c.args.form.now.edit.table c.args.form.now.edit.row c.args.seat.now.region c.args.seat.now.station s.2.paired s.1 s.3 st there
+    seat_host c.args.core.now.own _ c.args.core.now s.0 c.args.form.now.edit.table c.args.form.now.edit.row c.args.seat.now.region c.args.seat.now.station s.1 s.3 st there
 
 pub returns-clause-does : goal.returns-clause-does
 returns-clause-does g c = λ m way stands k.

@@ -6,6 +6,7 @@ use Rattle.queue_events.proofs.sending.next_flight.Goals as goal
 
 pub read_entries-requires : goal.read_entries-requires
 read_entries-requires g c =
-    let k = c.requires.standing in
-    let have = batch_have c.args.core.now.own (g.V.Vault.contents c.args.own.now) c.args.core.now k.0 k.1 k.2 c.args.peer c.args.server c.requires.opens (logs_kept c.args.core.now.own k.2.paired k.0 k.1) c.args.most in
+    let k = c.requires.sendable in
+    let own = c.args.core.now.own in
+    let have = batch_have own (g.V.Vault.contents c.args.own.now) c.args.core.now k.1 k.2 k.3 k.4 c.args.peer c.args.server k.5 (logs_kept own k.3 k.1 k.2) c.args.most in
     subst (All (HasFrameAt (g.V.Vault.contents c.args.own.now) c.args.server)) (sym (c.as_slice.ensures ∙ c.in_ok-kept.ensures)) have
