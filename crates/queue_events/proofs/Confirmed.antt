@@ -17,7 +17,7 @@ use Rattle.rep_model.specs.Path.{refusal_of}
 use Rattle.rep_model.specs.Plan.{Plan, told}
 use Rattle.rep_model.specs.PlanRows.{lives as lives_in}
 use Rattle.rep_model.specs.MoreRows.{confirm_plan}
-use Rattle.rep_model.specs.Peers.{peer_of}
+use Rattle.rep_model.specs.Peers.{is_enabled, peer_of}
 use Rattle.rep_model.specs.Row.{Row, answers}
 use Rattle.rep_model.specs.QueueEvents.{is_out, flown, landed, recorded}
 use Rattle.rep_model.specs.declared.machine.Machine.{Machine}
@@ -32,6 +32,7 @@ use Rattle.rep_laws.proofs.Sides.{of_with, flights_with}
 use Rattle.rep_laws.proofs.Fronts.{noted}
 use Rattle.cluster_core.specs.declared.parts.ClusterCore.{ClusterCore}
 use Rattle.cluster_core.specs.declared.parts.Line.{Line}
+use Rattle.cluster_core.specs.declared.parts.PeerLine.{PeerLine}
 use Rattle.cluster_core.specs.declared.parts.Sent.{Sent}
 use Rattle.cluster_core.specs.Memory.{queue_of_line}
 use Rattle.cluster_core.specs.Stands.{Stands}
@@ -42,18 +43,28 @@ use Rattle.cluster_core.proofs.Simple.{beside_with}
 use Rattle.cluster_core.proofs.Queued.{requeued, landed_stands}
 use Rattle.queue_events.specs.Flights.{sent_at, IsFrom}
 use Rattle.queue_events.specs.Confirming as memory
-use Rattle.queue_events.proofs.Known.{mapped_none, mapped_some, sent_is, added_found, peer_absent, peer_is, queue_absent, queue_known, living_is}
+use Rattle.queue_events.proofs.Known.{mapped_none, mapped_some, sent_is, added_found, peer_absent, peer_known, queue_absent, queue_known, living_is}
 
 -- ---- what speaks against it
-
--- the flight in memory is one of the state's
-pub flight_there : {way : Route} (m : Machine) (fs : List Sent) (k : ℕ) (s : Sent) → Reached way m → fs ≡ map (sent_of way) m.flights → sent_at k fs ≡ Some s
-    → (f : Flight) × (flight_of k m ≡ Some f) × (sent_of way f ≡ s)
-flight_there {way} m fs k s r flights e = mapped_some (sent_of way) (flight_of k m) s (sym (ap (sent_at k) flights ∙ sent_is m r k) ∙ e)
 
 pub no_flight : {way : Route} (m : Machine) (fs : List Sent) (k : ℕ) → Reached way m → fs ≡ map (sent_of way) m.flights → sent_at k fs ≡ None → refusal_of (confirm_plan k m) ≡ Some refusal.NoFlight
 unfolding confirm_plan
 no_flight {way} m fs k r flights e = rw (mapped_none (sent_of way) (flight_of k m) (sym (ap (sent_at k) flights ∙ sent_is m r k) ∙ e)) refl
+
+-- a flight in memory is one of the state's, of this cluster
+pub record HasFlight (way : Route) (own : Cluster) (c : Contents) (core : ClusterCore) (m : Machine) (k : ℕ) (s : Sent) : Type 0 where
+  pub flight : Flight
+  pub there : flight_of k m ≡ Some flight
+  pub is : s ≡ sent_of way flight
+  pub from : flight.cluster ≡ own
+  pub stands : Stands flight.cluster c core (of flight.cluster m)
+
+pub has_flight : {way : Route} (own : Cluster) (c : Contents) (core : ClusterCore) (m : Machine) (fs : List Sent) (k : ℕ) (s : Sent) → Reached way m → Stands own c core (of own m)
+    → fs ≡ map (sent_of way) m.flights → IsFrom own k m → sent_at k fs ≡ Some s → HasFlight way own c core m k s
+has_flight {way} own c core m fs k s r stands flights from e =
+    let f = mapped_some (sent_of way) (flight_of k m) s (sym (ap (sent_at k) flights ∙ sent_is m r k) ∙ e) in
+    let source : f.0.cluster ≡ own = subst (λ (o : Option Flight). IfSome o (λ (g : Flight). g.cluster ≡ own)) f.1 from in
+    record { flight = f.0; there = f.1; is = sym f.2; from = source; stands = subst (λ (w : Cluster). Stands w c core (of w m)) (sym source) stands }
 
 outs : (k : ℕ) (r : Option ℕ) → is_out k r ≡ true → r ≡ Some k
 outs k None h = absurd (false≢true h)
@@ -62,16 +73,8 @@ outs k (Some n) h = ap Some (eqb-true n k h)
 out_itself : (n : ℕ) → is_out n (Some n) ≡ true
 out_itself n = eq-eqb n n refl
 
-some_there : {X : Type 0} (o : Option X) → is_some o ≡ true → (x : X) × (o ≡ Some x)
-some_there None e = absurd (false≢true e)
-some_there (Some x) e = (x, refl)
-
-unmapped_some : {X Y : Type 0} (f : X → Y) (o : Option X) → is_some (option_map f o) ≡ true → is_some o ≡ true
-unmapped_some f None e = e
-unmapped_some f (Some x) e = refl
-
 -- a known flight of the cluster
-module _ {way : Route} (k : ℕ) (f : Flight) (c : Contents) (core : ClusterCore) (m : Machine) (there : flight_of k m ≡ Some f) (st : Stands f.cluster c core (of f.cluster m)) where
+module _ (k : ℕ) (f : Flight) (c : Contents) (core : ClusterCore) (m : Machine) (there : flight_of k m ≡ Some f) (st : Stands f.cluster c core (of f.cluster m)) where
   pub no_peer : added f.peer core.peers ≡ None → refusal_of (confirm_plan k m) ≡ Some refusal.NoPeer
   unfolding confirm_plan
   no_peer e = rw (there, refusal_of, peer_absent f.cluster c core m st f.peer e) refl
@@ -100,13 +103,44 @@ module _ {way : Route} (k : ℕ) (f : Flight) (c : Contents) (core : ClusterCore
           unfolding confirm_plan given
           not_delivered e = rw (there, refusal_of, known, refusal_of, queue_known f.cluster c core m st f.peer f.server l found, out, living, e) refl
 
-          pub may : f.delivered ≡ true → memory.MayConfirm way core k m (sent_of way f)
-          may e = record { flight = f; there = there; sent_is = refl; peer = x; known = known; line = l; found = found; out = outs k l.flight out; lives = living; delivered = e }
+          pub may : (way : Route) → f.delivered ≡ true → memory.MayConfirm way core k m (sent_of way f)
+          may way e = record { flight = f; there = there; sent_is = refl; peer = x; known = known; line = l; found = found; out = outs k l.flight out; lives = living; delivered = e }
 
           -- and then it is recorded
           pub row_is : (n : ℕ) → f.delivered ≡ true → told (confirm_plan k m) (reply.Recorded n) m ≡ answers (reply.Recorded (length f.entries)) (landed f (recorded f.cluster f.peer f.entries m))
           unfolding confirm_plan given
           row_is n e = rw (there, told, known, told, queue_known f.cluster c core m st f.peer f.server l found, out, living, e) refl
+
+-- the same, as memory tells it
+module _ {way : Route} (own : Cluster) (c : Contents) (core : ClusterCore) (m : Machine) (k : ℕ) (s : Sent) (h : HasFlight way own c core m k s) where
+  pub told_no_peer : added s.peer core.peers ≡ None → refusal_of (confirm_plan k m) ≡ Some refusal.NoPeer
+  told_no_peer e = no_peer k h.flight c core m h.there h.stands (subst (λ (x : Sent). added x.peer core.peers ≡ None) h.is e)
+
+  module _ (y : PeerLine) (there : added s.peer core.peers ≡ Some y) where
+    peer : (x : Peer) × (peer_of h.flight.cluster h.flight.peer m ≡ Some x) × (is_enabled x.standing ≡ is_enabled y.standing)
+    peer = peer_known h.flight.cluster c core m h.stands h.flight.peer y (subst (λ (x : Sent). added x.peer core.peers ≡ Some y) h.is there)
+
+    pub told_no_queue : find (is_line s.peer s.server) core.lines ≡ None → refusal_of (confirm_plan k m) ≡ Some (refusal.Stale None)
+    told_no_queue e = no_queue k h.flight c core m h.there h.stands peer.0 peer.1 (subst (λ (x : Sent). find (is_line x.peer x.server) core.lines ≡ None) h.is e)
+
+    module _ (l : Line) (found : find (is_line s.peer s.server) core.lines ≡ Some l) where
+      line : find (is_line h.flight.peer h.flight.server) core.lines ≡ Some l
+      line = subst (λ (x : Sent). find (is_line x.peer x.server) core.lines ≡ Some l) h.is found
+
+      pub told_stale : is_out k l.flight ≡ false → refusal_of (confirm_plan k m) ≡ Some (refusal.Stale l.flight)
+      told_stale e = stale k h.flight c core m h.there h.stands peer.0 peer.1 l line e
+
+      pub told_owner_dead : is_out k l.flight ≡ true → lives l.owner core.stations ≡ false → refusal_of (confirm_plan k m) ≡ Some (refusal.OwnerDead l.owner)
+      told_owner_dead out e = owner_dead k h.flight c core m h.there h.stands peer.0 peer.1 l line out e
+
+      module _ (out : is_out k l.flight ≡ true) (alive : lives l.owner core.stations ≡ true) where
+        pub told_not_delivered : s.delivered ≡ false → refusal_of (confirm_plan k m) ≡ Some (refusal.NotDelivered k)
+        told_not_delivered e =
+            not_delivered k h.flight c core m h.there h.stands peer.0 peer.1 l line out alive (subst (λ (x : Sent). x.delivered ≡ false) h.is e)
+
+        pub told_may : s.delivered ≡ true → memory.MayConfirm way core k m s
+        told_may e = subst (memory.MayConfirm way core k m) (sym h.is)
+            (may k h.flight c core m h.there h.stands peer.0 peer.1 l line out alive way (subst (λ (x : Sent). x.delivered ≡ true) h.is e))
 
 -- ---- the state after it
 
@@ -156,12 +190,19 @@ module _ {way : Route} (k : ℕ) (m : Machine) (c : Contents) (core : ClusterCor
         let alive : lives l.owner core.stations ≡ true = living_is own c core m st l.owner ∙ may.lives in
         let gone : is_out k l.flight ≡ true = ap (is_out k) may.out ∙ out_itself k in
         let row : told (confirm_plan k m) (reply.Recorded (length f.entries)) m ≡ answers (reply.Recorded (length f.entries)) (with own side m) =
-        row_is {way} k f c core m may.there st x may.known l may.found gone alive (length f.entries) may.delivered ∙ ap (answers (reply.Recorded (length f.entries))) left in
+        row_is k f c core m may.there st x may.known l may.found gone alive (length f.entries) may.delivered ∙ ap (answers (reply.Recorded (length f.entries))) left in
         subst (λ (w : Sent). Flies way own (told (confirm_plan k m) (reply.Recorded w.entries) m) m c (memory.landed w core) fs (reply.Recorded w.entries)) (sym may.sent_is)
         (flies_as own _ m (with own side m) c (memory.landed (sent_of way f) core) fs (reply.Recorded (length f.entries)) row stands (beside_with own side m) (flights ∙ ap (map (sent_of way)) (sym (flights_with own side m))))
 
--- an event of flights of a cluster that is known by an equation
-pub of_cluster : {way : Route} (own d : Cluster) (p : Plan) (m : Machine) (c c' : Contents) (core core' : ClusterCore) (fs : List Sent) (said : Reply) → d ≡ own → is_in way own ≡ true → Stands own c core (of own m)
-    → (is_in way d ≡ true → Stands d c core (of d m) → Flies way d (told p said m) m c' core' fs said) → Flies way own (told p said m) m c' core' fs said
-of_cluster {way} own d p m c c' core core' fs said is pair st does =
-    subst (λ (w : Cluster). is_in way w ≡ true → Stands w c core (of w m) → Flies way w (told p said m) m c' core' fs said) is does pair st
+-- the same, where memory tells the cluster
+pub recorded_answer : {way : Route} (own : Cluster) (k : ℕ) (m : Machine) (c : Contents) (core core' : ClusterCore) (fs : List Sent) (s : Sent) → Reached way m → fs ≡ map (sent_of way) m.flights
+    → (may : memory.MayConfirm way core k m s) → may.flight.cluster ≡ own → is_in way own ≡ true → Stands own c core (of own m) → core' ≡ memory.landed s core
+    → Flies way own (told (confirm_plan k m) (reply.Recorded s.entries) m) m c core' fs (reply.Recorded s.entries)
+recorded_answer {way} own k m c core core' fs s reached flights may from pair st left =
+    subst (λ (w : ClusterCore). Flies way own (told (confirm_plan k m) (reply.Recorded s.entries) m) m c w fs (reply.Recorded s.entries)) (sym left)
+    (subst (λ (w : Cluster). is_in way w ≡ true → Stands w c core (of w m) → Flies way w (told (confirm_plan k m) (reply.Recorded s.entries) m) m c (memory.landed s core) fs (reply.Recorded s.entries)) from
+    (λ inside stands. recorded_flies k m c core fs s reached flights may inside stands) pair st)
+
+-- the flight's cluster
+pub its_cluster : {way : Route} (own : Cluster) (core : ClusterCore) (k : ℕ) (m : Machine) (s : Sent) (may : memory.MayConfirm way core k m s) → IsFrom own k m → may.flight.cluster ≡ own
+its_cluster own core k m s may from = subst (λ (o : Option Flight). IfSome o (λ (g : Flight). g.cluster ≡ own)) may.there from

@@ -39,7 +39,7 @@ module _ {way : Route} (own : Cluster) (c : Contents) (core : ClusterCore) (m : 
     (may : MaySend own m p s) where
   pub faulted_flies : (n count : ℕ) (fs : List Sent) → fs ≡ map (sent_of way) m.flights
       → Flies way own (row way (event.Send own p s n) (reply.StoreFault own call.Read count) m) m c core fs (reply.StoreFault own call.Read count)
-  faulted_flies n count fs flights = flies_as own _ m m c core fs (reply.StoreFault own call.Read count) (send_faulted own p s n m may count) k (λ d apart. refl) flights
+  faulted_flies n count fs flights = flies_as own _ m m c core fs (reply.StoreFault own call.Read count) (send_faulted way own p s n m may count) k (λ d apart. refl) flights
 
   lines_are : (o : Option Line) (l : Line) (f g : ℕ) (lines : List Line) → o ≡ Some l → f ≡ g → MatchOption o (lines ≡ core.lines) (λ (r : Line). lines ≡ replace (is_line p s) (flies (Some f) r) core.lines) → lines ≡ replace (is_line p s) (flies (Some g) l) core.lines
   lines_are o l f g lines e h a = subst (λ i. MatchOption o (lines ≡ core.lines) (λ (r : Line). lines ≡ replace (is_line p s) (flies (Some i) r) core.lines) → lines ≡ replace (is_line p s) (flies (Some g) l) core.lines) (sym h)
@@ -69,7 +69,7 @@ module _ {way : Route} (own : Cluster) (c : Contents) (core : ClusterCore) (m : 
       (subst (λ (ls : List Line). Stands own c (record core { lines = ls }) side) (sym (lines_are (find (is_line p s) core.lines) l.0 number next lines l.1 num changed)) stands) in
       let out : fs ++ made ∷ [] ≡ map (sent_of way) (m.flights ++ f ∷ []) = (λ i. flights i ++ is i ∷ []) ∙ sym (map-append (sent_of way) m.flights (f ∷ [])) in
       flies_as own _ m left c (record core { lines = lines }) (fs ++ made ∷ []) said
-      (send_sent own p s n m may number made.entries (length made.forms) w.0 w.1 w.2 ∙ (λ i. answers (due i) (goes i)))
+      (send_sent way own p s n m may number made.entries (length made.forms) w.0 w.1 w.2 ∙ (λ i. answers (due i) (goes i)))
       there (beside_both own side (m.flights ++ f ∷ []) m) out
 
   -- the same, as the calls tell it

@@ -34,7 +34,7 @@ use Rattle.queue_events.specs.Sending.{MaySend}
 
 -- ---- the row
 
-module _ {way : Route} (own : Cluster) (p s n : ℕ) (m : Machine) (may : MaySend own m p s) where
+module _ (way : Route) (own : Cluster) (p s n : ℕ) (m : Machine) (may : MaySend own m p s) where
   pub send_faulted : (count : ℕ) → told (send_plan way own p s n m) (reply.StoreFault own call.Read count) m ≡ answers (reply.StoreFault own call.Read count) m
   unfolding send_plan
   send_faulted count =

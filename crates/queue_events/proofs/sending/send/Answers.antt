@@ -10,7 +10,7 @@ use Rattle.queue_events.proofs.sending.send.Goals as goal
 pub next_flight-requires : goal.next_flight-requires
 next_flight-requires g c =
     let s = c.requires in
-    (s.0, s.1, s.2, s.3, s.4, c.in-Ok.ensures.state s.0 (g.V.Vault.contents c.args.own.now) s.1 c.args.most s.2 s.3 s.4)
+    record { sendable = (s.0, s.1, s.2, s.3, s.4, c.in-Ok.ensures.state s.0 (g.V.Vault.contents c.args.own.now) s.1 c.args.most s.2 s.3 s.4) }
 
 pub returns-in-Err-clause-does : goal.returns-in-Err-clause-does
 returns-in-Err-clause-does g c = λ way m reached inside to stands flights some.
@@ -31,6 +31,6 @@ returns-clause-does g c = λ way m reached inside to stands flights some.
     let old : Contents = g.V.Vault.contents c.args.own.now in
     let may = c.in-Ok.ensures.state way old m c.args.most reached inside stands in
     let read = c.in-Ok-next_flight.ensures.sent in
-    sent_answer core.own old core m reached inside stands c.args.peer c.args.server may (logs_kept core.own inside m reached) c.args.most c.in-Some-next_number.number c.len-forms.result
+    sent_answer core.own old core m reached inside stands c.args.peer c.args.server may (logs_kept core.own inside m reached) c.args.most c.in-Some.number c.len-forms.result
     read.0 c.in-Ok.whose.now c.args.to c.in-Ok-next_flight.sent c.args.flights.now c.push.new.self c.set_out.new.lines (g.V.Vault.contents c.next_flight.new.own) to
-    some read.1 c.in-Ok.ensures.whose flights c.in-Some-next_number.ensures c.set_out.ensures read.2 c.len-forms.ensures c.in-Ok-push.ensures.ok c.next_flight.ensures.same
+    some read.1 c.in-Ok.ensures.whose flights c.in-Some.ensures c.set_out.ensures read.2 c.len-forms.ensures c.in-Ok-push.ensures.ok c.next_flight.ensures.same
