@@ -150,6 +150,6 @@ module _ {way : Route} (own : Cluster) (c : Contents) (core : ClusterCore) (fs :
         })
 
 -- where memory ran out
-pub unfinished : {way : Route} (own : Cluster) (k : ℕ) (peer : ℕ) (synchronous : Bool) (forms : List Form) (m : Machine) (old : Contents) (core : ClusterCore) (fs : List Sent) (new : Contents) (w : ClusterCore) (e : CoreError) (r : Result Reply CoreError) → r ≡ Err e
+pub unfinished : (way : Route) (own : Cluster) (k : ℕ) (peer : ℕ) (synchronous : Bool) (forms : List Form) (m : Machine) (old : Contents) (core : ClusterCore) (fs : List Sent) (new : Contents) (w : ClusterCore) (e : CoreError) (r : Result Reply CoreError) → r ≡ Err e
     → DeliversOr own peer synchronous forms m old core new w (Err e) → FliesOr way own (event.Deliver k) m old core fs new w fs r
-unfinished {way} own k peer synchronous forms m old core fs new w (failed.Memory changed) r is d = subst (λ (x : Result Reply CoreError). FliesOr way own (event.Deliver k) m old core fs new w fs x) (sym is) (λ h. (let q = d h in (q.0, q.1, refl)))
+unfinished way own k peer synchronous forms m old core fs new w (failed.Memory changed) r is d = subst (λ (x : Result Reply CoreError). FliesOr way own (event.Deliver k) m old core fs new w fs x) (sym is) (λ h. (let q = d h in (q.0, q.1, refl)))

@@ -1,6 +1,9 @@
 -- A delivery goes on by one form, stops at one, or ends.
-use Rattle.std.proofs.Common.{ℕ, zero, suc, ◌+◌, ◌<◌, ◌≤◌, ◌≡◌, Bool, cond, List, [], ◌∷◌, fold, length, drop, get_or, drop-cons, add-one, Option, Some, None, Result, Ok, refl, ap, sym, ◌∙◌, subst, arith, eq-eqb, ne_eqb}
+use Rattle.std.proofs.Common.{ℕ, zero, suc, ◌+◌, ◌<◌, ◌≤◌, ◌≡◌, ◌||◌, Bool, true, false, cond, List, [], ◌∷◌, fold, length, drop, get_or, drop-cons, add-one, Option, Some, None, Result, Ok, Err, refl, ap, sym, ◌∙◌, subst, arith, eq-eqb, ne_eqb}
+use Rattle.std.specs.Prelude.{nat_lt}
 use Rattle.std.specs.List.{AllByRecursion}
+use Rattle.std.proofs.lemmas.Bool.{true≢false}
+use Rattle.std.proofs.lemmas.Bool.Decides.{nat_tests}
 use Rattle.rep_types.specs.declared.ids.Cluster.{Cluster}
 use Rattle.rep_types.specs.declared.reply.Cause.{Cause}
 use Rattle.rep_vault.specs.Contents.{Contents}
@@ -13,11 +16,12 @@ use Rattle.rep_model.specs.declared.machine.Form.{Form}
 use Rattle.rep_model.specs.declared.machine.Machine.{Machine}
 use Rattle.cluster_core.specs.declared.parts.ClusterCore.{ClusterCore}
 use Rattle.cluster_core.specs.declared.parts.CoreError.{CoreError}
+use Rattle.cluster_core.specs.declared.parts.CoreError.TheVariants as failed
 use Rattle.cluster_core.specs.Does.{Counts}
 use Rattle.cluster_core.specs.Stands.{Stands}
 use Rattle.arrival_events.specs.Acks.{put_in}
 use Rattle.arrival_events.specs.Arriving.{IsMidway, Takes, fault_of, fault_at, Arrives}
-use Rattle.arrival_events.specs.Delivering.{Delivers}
+use Rattle.arrival_events.specs.Delivering.{Delivers, DeliversOr, behind}
 use Rattle.arrival_events.specs.Underway.{IsUnderway}
 use Rattle.arrival_events.specs.declared.arriving.Arrived.{Arrived}
 use Rattle.arrival_events.specs.declared.arriving.Arrived.TheVariants.{Taken, Stopped}
@@ -123,6 +127,23 @@ module _ (own : Cluster) (peer : ℕ) (synchronous : Bool) (forms : List Form) (
     flights = u.flights;
     acks_are = u.acks_are;
   }
+
+-- memory ran out: it is as if nothing was done only where no form had arrived and this one changed nothing
+pub fell_short : (own : Cluster) (peer : ℕ) (synchronous : Bool) (form : Form) (forms : List Form) (m now : Machine) (first old new : Contents) (core0 core core' : ClusterCore) (why : CoreError) (n : ℕ)
+    → (n ≡ 0 → (core ≡ core0) × (old ≡ first)) → Arrives own peer synchronous form now old core new core' (Err why)
+    → DeliversOr own peer synchronous forms m first core0 new core' (Err (behind why n))
+fell_short own peer synchronous form forms m now first old new core0 core core' (failed.Memory changed) n same a = λ h.
+    let parts = neither changed (nat_lt 0 n) h in
+    let here = a parts.0 in
+    let before = same (none n parts.1) in
+    (here.0 ∙ before.0, here.1 ∙ before.1)
+  where
+    neither : (x y : Bool) → (x || y) ≡ false → (x ≡ false) × (y ≡ false)
+    neither true y e = absurd (true≢false e)
+    neither false y e = (refl, e)
+
+    none : (k : ℕ) → nat_lt 0 k ≡ false → k ≡ 0
+    none k e = grind (arith, nat_tests)
 
 -- an arrival, where memory tells the cluster
 pub by_own : (c own : Cluster) (peer : ℕ) (synchronous : Bool) (form : Form) (old new : Contents) (core core' : ClusterCore) (r : Result Arrived CoreError) → c ≡ own → ((m : Machine) → IsMidway c m → Stands c old core (of c m) → Arrives c peer synchronous form m old core new core' r)

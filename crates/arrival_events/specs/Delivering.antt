@@ -1,5 +1,5 @@
 -- What a delivery leaves, and when a cluster is the one that a flight was sent to.
-use Rattle.std.specs.Prelude.{ℕ, suc, ◌<◌, ◌≡◌, ◌==◌, Bool, List, length, map, slice_get, Option, Some, None, IfSome, Result, Ok, Err}
+use Rattle.std.specs.Prelude.{ℕ, suc, ◌<◌, ◌≡◌, ◌==◌, ◌||◌, nat_lt, Bool, List, length, map, slice_get, Option, Some, None, IfSome, Result, Ok, Err}
 use Rattle.std.specs.List.{AllByRecursion}
 use Rattle.rep_types.specs.declared.ids.Cluster.{Cluster}
 use Rattle.rep_types.specs.declared.reply.Cause.{Cause}
@@ -50,6 +50,10 @@ pub record Delivers (own : Cluster) (peer : ℕ) (synchronous : Bool) (forms : L
   pub beside : (d : Cluster) → (mark d == mark own) ≡ Bool.false → of d left ≡ of d m
   pub flights : left.flights ≡ m.flights
   pub acks_are : done.acks ≡ acks m left
+
+-- want of memory behind so many forms that arrived
+abbrev pub behind : CoreError → ℕ → CoreError
+behind (failed.Memory changed) n = failed.Memory (changed || nat_lt 0 n)
 
 -- where memory ran out before anything was changed, all is as before
 abbrev pub DeliversOr : Cluster → ℕ → Bool → List Form → Machine → Contents → ClusterCore → Contents → ClusterCore → Result Delivered CoreError → Type 0

@@ -8,7 +8,7 @@ ghost use Rattle.cluster_core.specs.declared.parts.Sent.{Sent};
 ghost use Rattle.cluster_core.specs.Stands.{Stands};
 ghost use Rattle.cluster_core.specs.Does.{FaultTold, Counts, FliesOr};
 ghost use Rattle.arrival_events.specs.Arriving.{MayArrive, IsMidway};
-ghost use Rattle.arrival_events.specs.Delivering.{IsSink, DeliversOr, IsPlace, DeliveryTold};
+ghost use Rattle.arrival_events.specs.Delivering.{IsSink, DeliversOr, IsPlace, DeliveryTold, behind};
 
 use crate::acks::add_tickets;
 use crate::arriving::{Arrived, arrive};
@@ -44,6 +44,17 @@ fn sent_at(flights: &Items<Sent>, at: usize) -> &Sent
     &flights.as_slice()[at]
 }
 
+// Want of memory behind so many forms that arrived.
+fn behind(why: CoreError, arrived: u64) -> CoreError
+    ensures { result ≡ behind why arrived }
+{
+    match why {
+        CoreError::Memory { changed } => CoreError::Memory {
+            changed: changed || arrived > 0,
+        },
+    }
+}
+
 // All of the forms arrive, until one is stopped.
 fn arrive_all<V: Vault>(
     core: &mut ClusterCore,
@@ -77,11 +88,7 @@ fn arrive_all<V: Vault>(
                     stop: Some(cause),
                 });
             }
-            Err(CoreError::Memory { changed }) => {
-                return Err(CoreError::Memory {
-                    changed: changed || arrived > 0,
-                });
-            }
+            Err(why) => return Err(behind(why, arrived)),
         }
     }
     Ok(Delivered {

@@ -1,5 +1,6 @@
 -- A form at its seat, by what became of its entry.
-use Rattle.std.proofs.Common.{rules, ◌≤◌}
+use Rattle.std.proofs.Common.{rules, ◌≤◌, sym, subst}
+use Rattle.wal_entry.specs.Framed.{IsFramed}
 use Rattle.rep_vault.specs.Contents.{Contents}
 use Rattle.rep_model.specs.State.{of}
 use Rattle.cluster_core.specs.declared.parts.ClusterCore.{ClusterCore}
@@ -26,3 +27,10 @@ returns-clause-does g c = λ m way stands k.
 
 pub returns-clause-told : goal.returns-clause-told
 returns-clause-told g c = told_by c.args.core.now.own c.current_log-log.result.server c.current_log-log.result.number c.commit_entry-done.result c.arrived_by.result _ _ c.arrived_by.ensures c.commit_entry-done.ensures.told
+
+pub commit_entry-done-requires-clause-framed : goal.commit_entry-done-requires-clause-framed
+commit_entry-done-requires-clause-framed g c =
+    let least : 1 ≤ c.args.peer = search rules in
+    let most : c.args.peer ≤ 4 = search rules in
+    let framed = entry_framed c.args.form.now c.args.peer c.args.seat.now.region c.in-Some.seq c.args.core.now.index c.requires.may least most c.in-Some.ensures in
+    subst IsFramed (sym c.in-Ok.ensures) framed.framed

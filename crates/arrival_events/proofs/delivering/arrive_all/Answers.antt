@@ -1,14 +1,14 @@
 -- A delivery, form by form.
-use Rattle.std.proofs.Common.{◌≡◌, ℕ, ◌+◌, ◌<◌, ◌≤◌, List, fold, rules, Ok, Some, None, length, refl, ap, sym, subst, le_refl, arith}
+use Rattle.std.proofs.Common.{◌≡◌, ℕ, ◌+◌, ◌<◌, ◌≤◌, List, fold, rules, Ok, Err, Some, None, length, refl, ap, sym, subst, le_refl, arith}
 use Rattle.rep_types.specs.declared.ids.Cluster.{Cluster}
 use Rattle.rep_vault.specs.Contents.{Contents}
 use Rattle.rep_model.specs.declared.machine.Form.{Form}
 use Rattle.cluster_core.specs.declared.parts.ClusterCore.{ClusterCore}
 use Rattle.arrival_events.specs.Acks.{put_in}
 use Rattle.arrival_events.specs.Arriving.{MayArrive}
-use Rattle.arrival_events.specs.Delivering.{Delivers}
+use Rattle.arrival_events.specs.Delivering.{Delivers, DeliversOr}
 use Rattle.arrival_events.specs.Underway.{IsUnderway}
-use Rattle.arrival_events.proofs.Underway.{all_at, drop_end, begun, went, stopped_at, ended, by_own, counts_then}
+use Rattle.arrival_events.proofs.Underway.{all_at, drop_end, begun, went, stopped_at, ended, fell_short, by_own, counts_then}
 use Rattle.arrival_events.proofs.delivering.arrive_all.Goals as goal
 
 pub loop-form-init : goal.loop-form-init
@@ -75,3 +75,14 @@ returns-clause-does g c = λ m way stands.
     let d = ended own c.args.peer c.args.synchronous forms m last core c.loop-form.acks.items at (c.loop-form.invariant.0 m way stands) (drop_end forms at end) in
     subst (λ n. Delivers own c.args.peer c.args.synchronous forms m last core (record { arrived = n; acks = c.from_vec-2.result; stop = None })) (sym c.loop-form.invariant.1)
     (subst (λ xs. Delivers own c.args.peer c.args.synchronous forms m last core (record { arrived = at; acks = xs; stop = None })) (sym c.from_vec-2.ensures) d)
+
+pub returns-in-Err-clause-does : goal.returns-in-Err-clause-does
+returns-in-Err-clause-does g c = λ m way stands.
+    let own : Cluster = c.args.core.now.own in
+    let u = c.loop-form.invariant.0 m way stands in
+    let core : ClusterCore = c.loop-form.core in
+    let given = by_own core.own own c.args.peer c.args.synchronous c.form-item.result (g.V.Vault.contents c.loop-form.own) (g.V.Vault.contents c.arrive.new.own) core c.arrive.new.core (Err c.in-Err.why) u.stands.own_is
+        c.in-Err.ensures.does u.now u.midway u.stands in
+    subst (λ e. DeliversOr own c.args.peer c.args.synchronous c.args.forms.now m (g.V.Vault.contents c.args.own.now) c.args.core.now (g.V.Vault.contents c.arrive.new.own) c.arrive.new.core (Err e)) (sym c.behind.ensures)
+    (fell_short own c.args.peer c.args.synchronous c.form-item.result c.args.forms.now m u.now (g.V.Vault.contents c.args.own.now) (g.V.Vault.contents c.loop-form.own) (g.V.Vault.contents c.arrive.new.own) c.args.core.now core c.arrive.new.core
+    c.in-Err.why c.loop-form.arrived c.loop-form.invariant.2 given)

@@ -33,7 +33,7 @@ arrive_all-requires-clause-may g c =
 
 pub returns-in-Err-clause-does : goal.returns-in-Err-clause-does
 returns-in-Err-clause-does g c = λ way m sink.
-    unfinished c.args.core.now.own c.args.flight c.sent_at-sent.result.now.peer c.sent_at-sent.result.now.synchronous c.as_slice-forms.result.now m (g.V.Vault.contents c.args.own.now) c.args.core.now c.args.flights.now (g.V.Vault.contents c.arrive_all.new.own) c.arrive_all.new.core c.in-Err.why (Err c.in-Err.why) refl
+    unfinished way c.args.core.now.own c.args.flight c.sent_at-sent.result.now.peer c.sent_at-sent.result.now.synchronous c.as_slice-forms.result.now m (g.V.Vault.contents c.args.own.now) c.args.core.now c.args.flights.now (g.V.Vault.contents c.arrive_all.new.own) c.arrive_all.new.core c.in-Err.why (Err c.in-Err.why) refl
     (c.in-Err.ensures.does m (midway_first c.args.core.now.own sink.inside m sink.reached) sink.stands)
 
 pub returns-in-Some-stop-clause-does : goal.returns-in-Some-stop-clause-does
