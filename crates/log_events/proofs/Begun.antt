@@ -104,7 +104,6 @@ module _ (own : Cluster) (c : Contents) (core : ClusterCore) (side : Side) (s at
     begun : c'.stands ≡ c.stands → RecordsStand c' side → Stands own c' core side
     begun folders records = record {
       own_is = stands.own_is;
-      paired = stands.paired;
       folder = ap (λ (f : List ℕ → Bool). f wal) folders ∙ stands.folder;
       regions = stands.regions;
       index = stands.index;
@@ -112,6 +111,7 @@ module _ (own : Cluster) (c : Contents) (core : ClusterCore) (side : Side) (s at
       queues = stands.queues;
       records = records;
       framed = stands.framed;
+      forms = stands.forms;
       link = stands.link;
     }
 

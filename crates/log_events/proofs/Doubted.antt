@@ -7,8 +7,8 @@ use Rattle.rep_types.specs.declared.ids.Cluster.{Cluster}
 use Rattle.region_meta.proofs.Changing.{set-same}
 use Rattle.region_meta.proofs.Lookups.{set-here, set-other}
 use Rattle.rep_model.specs.Keyed.{given}
-use Rattle.rep_model.specs.State.{of, is_server, unlinked}
-use Rattle.rep_model.specs.Words.{is_paired}
+use Rattle.rep_model.specs.State.{Route, of, is_server, unlinked}
+use Rattle.rep_model.specs.Words.{is_in}
 use Rattle.rep_model.specs.Tickets.{unless_told, tell_number, doubt_pending, is_doubtful, newly}
 use Rattle.rep_model.specs.declared.machine.Machine.{Machine}
 use Rattle.rep_model.specs.declared.machine.Server.{Server}
@@ -103,6 +103,6 @@ doubtful_stay c s l n ps side ts link =
     ∙ all_once (tickets_of (take n ps)) (told_from told.Doubtful 1 (tickets_of ps) ts) (tickets_front (IsTold (told_from told.Doubtful 1 (tickets_of ps) ts)) n ps (all_told (tickets_of ps) ts)))
 
 -- of a live server these are doubtful, once it rolls its log
-pub doubtful_are : (own : Cluster) → is_paired own ≡ true → (m : Machine) → Reached m → (s : ℕ) (srv : Server) → find (is_server s) (of own m).servers ≡ Some srv → srv.live ≡ true
+pub doubtful_are : {way : Route} (own : Cluster) → is_in way own ≡ true → (m : Machine) → Reached way m → (s : ℕ) (srv : Server) → find (is_server s) (of own m).servers ≡ Some srv → srv.live ≡ true
     → newly is_doubtful 1 m.tickets (told_from told.Doubtful 1 (tickets_of srv.pending) m.tickets) ≡ tickets_of srv.pending
 doubtful_are own pair m reached s srv there live = pending_newly_told told.Doubtful is_doubtful refl refl own pair m reached s srv there live

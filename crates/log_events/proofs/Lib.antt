@@ -1,5 +1,4 @@
 pub mod Begun
-pub mod Closed
 pub mod Doubted
 pub mod Emptied
 pub mod Ended

@@ -1,5 +1,5 @@
 -- A roll up to the seal, by what its calls told: the number of the next log, its file, and its record.
-use Rattle.std.proofs.Common.{ℕ, ◌+◌, ◌<◌, ◌≡◌, ◌^◌, [], ◌∷◌, Some, None, slice_get, false, ap, sym, ◌∙◌, subst}
+use Rattle.std.proofs.Common.{ℕ, ◌+◌, ◌<◌, ◌≡◌, ◌^◌, true, [], ◌∷◌, Some, slice_get, false, ap, sym, ◌∙◌, subst}
 use Rattle.std.proofs.lemmas.Option.{same_Some}
 use Rattle.rep_types.specs.declared.ids.Cluster.{Cluster}
 use Rattle.rep_vault.specs.declared.store.Change.{Change}
@@ -7,7 +7,8 @@ use Rattle.rep_vault.specs.Contents.{Contents, with_records}
 use Rattle.wal_roll.specs.Log.{LogValue, wal, log_name, IsWriter}
 use Rattle.wal_roll.specs.Steps.{MayCreate, OnlyFile, new_log}
 use Rattle.region_server.specs.Host.{Stands as HostStands}
-use Rattle.rep_model.specs.State.{of}
+use Rattle.rep_model.specs.State.{Route, of}
+use Rattle.rep_model.specs.Words.{is_in}
 use Rattle.rep_model.specs.declared.machine.Machine.{Machine}
 use Rattle.cluster_core.specs.declared.parts.ClusterCore.{ClusterCore}
 use Rattle.cluster_core.specs.declared.parts.Station.{Station}
@@ -18,14 +19,13 @@ use Rattle.cluster_core.specs.Lookups.{HasStation}
 use Rattle.cluster_core.specs.Stands.{Stands}
 use Rattle.cluster_core.specs.Texts.{OfServer, log_text}
 use Rattle.cluster_core.proofs.Reaching.{orderly}
-use Rattle.log_events.specs.Refusals.{roll_refusal}
 use Rattle.log_events.proofs.Begun.{IsBegun, may_make, log_made, begun_all}
 use Rattle.log_events.proofs.Refused.{IsOpen, opened}
 
-module _ (own : Cluster) (c : Contents) (core : ClusterCore) (s at : ℕ) (m : Machine) (reached : Reached m) (stands : Stands own c core (of own m)) (none : roll_refusal s (of own m) ≡ None)
-    (here : HasStation c (of own m) core.stations s at) where
+module _ {way : Route} (own : Cluster) (c : Contents) (core : ClusterCore) (s at : ℕ) (m : Machine) (pair : is_in way own ≡ true) (reached : Reached way m) (stands : Stands own c core (of own m))
+    (here : HasStation c (of own m) core.stations s at) (live : here.server.live ≡ true) where
   pub is_open : IsOpen c (of own m) core.stations s at here
-  is_open = opened c (of own m) core.stations s at here (orderly own stands.paired m reached) none
+  is_open = opened c (of own m) core.stations s at here (orderly own pair m reached) live
 
   module _ (log : ℕ) (next : log ≡ here.station.host.log.number + 1) where
     -- the number that memory has is the state's

@@ -68,7 +68,7 @@ module _ (own : Cluster) (old new : Contents) (core core' : ClusterCore) (side :
 
   pub turns : (next : Server) → next.number ≡ here.server.number
       → Turns side (committed_side here.server next (take (length kept.entries) here.server.pending) side) here.server next (take (length kept.entries) here.server.pending)
-  turns next same = record { found = known; number = same; servers = refl; commits = refl; tables = refl; regions = refl; peers = refl; queues = refl; link = refl }
+  turns next same = record { found = known; number = same; servers = refl; commits = refl; tables = refl; regions = refl; peers = refl; queues = refl; forms = refl; link = refl }
 
   -- ---- logs
 
@@ -125,6 +125,7 @@ module _ (own : Cluster) (old new : Contents) (core core' : ClusterCore) (side :
         map = refl;
         peers = refl;
         lines = refl;
+        forms = refl;
         turned = subst (λ j. find (is_station j) (set core.stations at st) ≡ Some st) (sym here.number) all.0;
         others = λ t apart. all.1 t (λ e. apart (here.number ∙ e));
       }

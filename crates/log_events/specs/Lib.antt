@@ -1,4 +1,4 @@
 pub mod Kept
 pub mod NextLog
-pub mod Refusals
+pub mod Ready
 pub mod SealedLog

@@ -16,17 +16,18 @@ ghost use Rattle.cluster_core.specs.Does.{Counts};
 ghost use Rattle.log_events.specs.Kept.{IsEmptied, Keeps};
 
 use cluster_core::{ClusterCore, CommitError, Station, log_fits};
-use region_server::{Host, Kept};
+use region_server::Kept;
 use rep_types::Items;
 use rep_vault::Vault;
 use std::alloc::Global;
 use wal_roll::LogError;
 
-fn host_at(stations: &Items<Station>, at: usize) -> &Host
+/// The station at this place.
+pub fn station_here(stations: &Items<Station>, at: usize) -> &Station
     requires { at < length stations.now }
-    ensures { (st : Station) → slice_get stations.now at ≡ Some st → result.now ≡ st.host }
+    ensures { (st : Station) → slice_get stations.now at ≡ Some st → result.now ≡ st }
 {
-    &stations.as_slice()[at].host
+    &stations.as_slice()[at]
 }
 
 // Seals the log of the station at this place.
@@ -67,10 +68,10 @@ pub fn seal_pending<V: Vault>(
     ensures counts { Counts (V.tally own.old) (V.tally own.new) }
     ensures told { (count : ℕ) → result ≡ Err (error.StoreFault count) → IsFault Seal count (V.tally own.old) (V.tally own.new) }
 {
-    let host = host_at(&core.stations, at);
-    let server = host.server();
-    let log = host.log().number();
-    let from = host.log().synced();
+    let station = station_here(&core.stations, at);
+    let server = station.host.server();
+    let log = station.host.log().number();
+    let from = station.host.log().synced();
     match seal_at(&mut core.stations, own, at) {
         Ok(kept) => {
             match core

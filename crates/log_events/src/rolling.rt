@@ -1,19 +1,23 @@
 // A roll: a server goes on with its next log.
-ghost use Rattle.std.specs.Prelude.{◌≡◌, ◌+◌, ◌<◌, ◌^◌, false, None, Some, IfOk, IfSome, MatchResult, length, slice_get};
+ghost use Rattle.std.specs.Prelude.{◌≡◌, ◌+◌, ◌<◌, ◌^◌, true, false, Some, IfOk, IfSome, MatchResult, length, slice_get};
 ghost use Rattle.rep_types.specs.declared.event.Event.TheVariants as event;
+ghost use Rattle.rep_types.specs.declared.reply.Reply.{Reply};
 ghost use Rattle.rep_vault.specs.Contents.{Contents};
-ghost use Rattle.rep_model.specs.State.{of};
+ghost use Rattle.rep_model.specs.State.{Route, of};
+ghost use Rattle.rep_model.specs.Words.{is_in};
+ghost use Rattle.rep_model.specs.Path.{refusal_of};
+ghost use Rattle.rep_model.specs.PlanRows.{roll_plan};
 ghost use Rattle.rep_model.specs.declared.machine.Machine.{Machine};
-ghost use Rattle.rep_model.specs.declared.machine.Side.{Side};
 ghost use Rattle.cluster_core.specs.declared.parts.Station.{Station};
 ghost use Rattle.cluster_core.specs.Texts.{OfServer, log_text};
 ghost use Rattle.cluster_core.specs.Changes.{setting};
-ghost use Rattle.cluster_core.specs.Lookups.{ServersStand, HasStation};
+ghost use Rattle.cluster_core.specs.Lookups.{ServersStand};
 ghost use Rattle.cluster_core.specs.Stands.{Stands};
 ghost use Rattle.cluster_core.specs.Does.{Reached, Standing, Answers, FaultTold, Counts};
-ghost use Rattle.log_events.specs.Refusals.{roll_refusal, pending_refusal};
+ghost use Rattle.log_events.specs.Ready.{MayRoll};
 
 use crate::ending::end_log;
+use crate::keeping::station_here;
 use cluster_core::{
     ClusterCore, CommitError, CoreError, Station, Stored, current_log, put_records, server_change,
     station_at,
@@ -23,43 +27,30 @@ use rep_vault::{Change, Vault};
 use std::alloc::Global;
 use wal_roll::{LogError, LogWriter};
 
-// Why the station's log isn't rolled.
-fn pending_refusal(station: &Station, server: ServerId) -> Option<Refusal>
-    ensures { result ≡ pending_refusal server station.now }
-{
-    if !station.live {
-        return Some(Refusal::Dead { server });
-    }
-    let log = station.host.log();
-    let count = log.pending();
-    if !log.is_broken() && count != 0 {
-        return Some(Refusal::Pending {
-            count: count as u64,
-        });
-    }
-    None
-}
-
-fn refusal_at(stations: &Items<Station>, at: usize, server: ServerId) -> Option<Refusal>
-    requires { at < length stations.now }
-    ensures { (st : Station) → slice_get stations.now at ≡ Some st → result ≡ pending_refusal server st }
-{
-    pending_refusal(&stations.as_slice()[at], server)
-}
-
 // The place of the server's station, or what speaks against a roll.
 fn roll_place(core: &ClusterCore, server: ServerId) -> Result<usize, Refusal>
     ensures within { IfOk result (λ at. at < length core.now.stations) }
-    ensures state { (c : Contents) (side : Side) → ServersStand c side core.now.stations
-        → MatchResult result (λ at. (roll_refusal server side ≡ None) × HasStation c side core.now.stations server at) (λ why. roll_refusal server side ≡ Some why) }
+    ensures state { (c : Contents) (m : Machine) → ServersStand c (of core.now.own m) core.now.stations
+        → MatchResult result (λ at. MayRoll c (of core.now.own m) core.now.stations server at) (λ why. (way : Route) (said : Reply) → refusal_of (roll_plan way core.now.own server said m) ≡ Some why) }
 {
     let Some(at) = station_at(&core.stations, server) else {
         return Err(Refusal::NoServer);
     };
-    match refusal_at(&core.stations, at, server) {
-        Some(why) => Err(why),
-        None => Ok(at),
+    let station = station_here(&core.stations, at);
+    if !station.live {
+        return Err(Refusal::Dead { server });
     }
+    let log = station.host.log();
+    if log.is_broken() {
+        return Ok(at);
+    }
+    let count = log.pending();
+    if count != 0 {
+        return Err(Refusal::Pending {
+            count: count as u64,
+        });
+    }
+    Ok(at)
 }
 
 // The number of the next log of the station at this place, where that is a number of 32 bits.
@@ -91,8 +82,8 @@ pub fn roll<V: Vault>(
     server: ServerId,
 ) -> Result<Reply, CoreError>
     requires { Standing core.old.own (V.contents own.old) core.old }
-    ensures does { (m : Machine) → Reached m → Stands core.old.own (V.contents own.old) core.old (of core.old.own m)
-        → Answers core.old.own (event.Roll core.old.own server) m (V.contents own.old) core.old (V.contents own.new) core.new result }
+    ensures does { (way : Route) (m : Machine) → Reached way m → is_in way core.old.own ≡ true → Stands core.old.own (V.contents own.old) core.old (of core.old.own m)
+        → Answers way core.old.own (event.Roll core.old.own server) m (V.contents own.old) core.old (V.contents own.new) core.new result }
     ensures counts { Counts (V.tally own.old) (V.tally own.new) }
     ensures told { IfOk result (λ reply. FaultTold core.old.own reply (V.tally own.old) (V.tally own.new)) }
 {

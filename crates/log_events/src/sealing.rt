@@ -1,55 +1,42 @@
 // A seal: a dead server's log is sealed.
-ghost use Rattle.std.specs.Prelude.{◌≡◌, ◌<◌, None, Some, IfOk, MatchResult, length, slice_get};
+ghost use Rattle.std.specs.Prelude.{◌≡◌, ◌<◌, true, Some, IfOk, MatchResult, length};
 ghost use Rattle.rep_types.specs.declared.event.Event.TheVariants as event;
+ghost use Rattle.rep_types.specs.declared.reply.Reply.{Reply};
 ghost use Rattle.rep_vault.specs.Contents.{Contents};
-ghost use Rattle.rep_model.specs.State.{of};
+ghost use Rattle.rep_model.specs.State.{Route, of};
+ghost use Rattle.rep_model.specs.Words.{is_in};
+ghost use Rattle.rep_model.specs.Path.{refusal_of};
+ghost use Rattle.rep_model.specs.MoreRows.{seal_plan};
 ghost use Rattle.rep_model.specs.declared.machine.Machine.{Machine};
-ghost use Rattle.rep_model.specs.declared.machine.Side.{Side};
-ghost use Rattle.cluster_core.specs.declared.parts.Station.{Station};
-ghost use Rattle.cluster_core.specs.Lookups.{ServersStand, HasStation};
+ghost use Rattle.cluster_core.specs.Lookups.{ServersStand};
 ghost use Rattle.cluster_core.specs.Stands.{Stands};
 ghost use Rattle.cluster_core.specs.Does.{Reached, Standing, Answers, FaultTold, Counts};
-ghost use Rattle.log_events.specs.Refusals.{seal_refusal, closed_refusal};
+ghost use Rattle.log_events.specs.Ready.{MaySeal};
 
 use crate::ending::seal_log;
-use cluster_core::{ClusterCore, CommitError, CoreError, Station, station_at};
-use rep_types::{Call, Items, Refusal, Reply, ServerId};
+use crate::keeping::station_here;
+use cluster_core::{ClusterCore, CommitError, CoreError, station_at};
+use rep_types::{Call, Refusal, Reply, ServerId};
 use rep_vault::Vault;
 use std::alloc::Global;
-
-// Why the station's log isn't sealed.
-fn closed_refusal(station: &Station, server: ServerId) -> Option<Refusal>
-    ensures { result ≡ closed_refusal server station.now }
-{
-    if station.live {
-        return Some(Refusal::Alive { server });
-    }
-    if station.sealed {
-        return Some(Refusal::Sealed);
-    }
-    None
-}
-
-fn refusal_at(stations: &Items<Station>, at: usize, server: ServerId) -> Option<Refusal>
-    requires { at < length stations.now }
-    ensures { (st : Station) → slice_get stations.now at ≡ Some st → result ≡ closed_refusal server st }
-{
-    closed_refusal(&stations.as_slice()[at], server)
-}
 
 // The place of the server's station, or what speaks against a seal.
 fn seal_place(core: &ClusterCore, server: ServerId) -> Result<usize, Refusal>
     ensures within { IfOk result (λ at. at < length core.now.stations) }
-    ensures state { (c : Contents) (side : Side) → ServersStand c side core.now.stations
-        → MatchResult result (λ at. (seal_refusal server side ≡ None) × HasStation c side core.now.stations server at) (λ why. seal_refusal server side ≡ Some why) }
+    ensures state { (c : Contents) (m : Machine) → ServersStand c (of core.now.own m) core.now.stations
+        → MatchResult result (λ at. MaySeal c (of core.now.own m) core.now.stations server at) (λ why. (said : Reply) → refusal_of (seal_plan core.now.own server said m) ≡ Some why) }
 {
     let Some(at) = station_at(&core.stations, server) else {
         return Err(Refusal::NoServer);
     };
-    match refusal_at(&core.stations, at, server) {
-        Some(why) => Err(why),
-        None => Ok(at),
+    let station = station_here(&core.stations, at);
+    if station.live {
+        return Err(Refusal::Alive { server });
     }
+    if station.sealed {
+        return Err(Refusal::Sealed);
+    }
+    Ok(at)
 }
 
 /// Seals a dead server's log, by one call of the store. The first pending entries, whose frames the store kept whole, are
@@ -62,8 +49,8 @@ pub fn seal<V: Vault>(
     server: ServerId,
 ) -> Result<Reply, CoreError>
     requires { Standing core.old.own (V.contents own.old) core.old }
-    ensures does { (m : Machine) → Reached m → Stands core.old.own (V.contents own.old) core.old (of core.old.own m)
-        → Answers core.old.own (event.Seal core.old.own server) m (V.contents own.old) core.old (V.contents own.new) core.new result }
+    ensures does { (way : Route) (m : Machine) → Reached way m → is_in way core.old.own ≡ true → Stands core.old.own (V.contents own.old) core.old (of core.old.own m)
+        → Answers way core.old.own (event.Seal core.old.own server) m (V.contents own.old) core.old (V.contents own.new) core.new result }
     ensures counts { Counts (V.tally own.old) (V.tally own.new) }
     ensures told { IfOk result (λ reply. FaultTold core.old.own reply (V.tally own.old) (V.tally own.new)) }
 {

@@ -1,56 +1,42 @@
 // A sync: what is pending at a server is committed.
-ghost use Rattle.std.specs.Prelude.{◌≡◌, ◌<◌, None, Some, IfOk, MatchResult, length, slice_get};
+ghost use Rattle.std.specs.Prelude.{◌≡◌, ◌<◌, true, Some, IfOk, MatchResult, length};
 ghost use Rattle.rep_types.specs.declared.event.Event.TheVariants as event;
 ghost use Rattle.rep_vault.specs.Contents.{Contents};
-ghost use Rattle.rep_model.specs.State.{of};
+ghost use Rattle.rep_model.specs.State.{Route, of};
+ghost use Rattle.rep_model.specs.Words.{is_in};
+ghost use Rattle.rep_model.specs.Path.{refusal_of};
+ghost use Rattle.rep_model.specs.PlanRows.{sync_plan};
 ghost use Rattle.rep_model.specs.declared.machine.Machine.{Machine};
-ghost use Rattle.rep_model.specs.declared.machine.Side.{Side};
-ghost use Rattle.cluster_core.specs.declared.parts.Station.{Station};
-ghost use Rattle.cluster_core.specs.Lookups.{ServersStand, HasStation};
+ghost use Rattle.cluster_core.specs.Lookups.{ServersStand};
 ghost use Rattle.cluster_core.specs.Stands.{Stands};
 ghost use Rattle.cluster_core.specs.Does.{Reached, Standing, Answers, FaultTold, Counts};
-ghost use Rattle.log_events.specs.Refusals.{sync_refusal, log_refusal};
+ghost use Rattle.log_events.specs.Ready.{MaySync};
 
-use cluster_core::{ClusterCore, CommitError, CoreError, Station, commit, station_at};
+use crate::keeping::station_here;
+use cluster_core::{ClusterCore, CommitError, CoreError, commit, station_at};
 use region_server::Committed;
-use rep_types::{Call, Items, Refusal, Reply, ServerId};
+use rep_types::{Call, Refusal, Reply, ServerId};
 use rep_vault::Vault;
 use std::alloc::Global;
-
-// Why the station's log isn't synced.
-fn log_refusal(station: &Station, server: ServerId) -> Option<Refusal>
-    ensures { result ≡ log_refusal server station.now }
-{
-    if !station.live {
-        return Some(Refusal::Dead { server });
-    }
-    let log = station.host.log();
-    if log.is_broken() {
-        return Some(Refusal::Broken { log: log.number() });
-    }
-    None
-}
-
-fn refusal_at(stations: &Items<Station>, at: usize, server: ServerId) -> Option<Refusal>
-    requires { at < length stations.now }
-    ensures { (st : Station) → slice_get stations.now at ≡ Some st → result ≡ log_refusal server st }
-{
-    log_refusal(&stations.as_slice()[at], server)
-}
 
 // The place of the server's station, or what speaks against a sync.
 fn sync_place(core: &ClusterCore, server: ServerId) -> Result<usize, Refusal>
     ensures within { IfOk result (λ at. at < length core.now.stations) }
-    ensures state { (c : Contents) (side : Side) → ServersStand c side core.now.stations
-        → MatchResult result (λ at. (sync_refusal server side ≡ None) × HasStation c side core.now.stations server at) (λ why. sync_refusal server side ≡ Some why) }
+    ensures state { (c : Contents) (m : Machine) → ServersStand c (of core.now.own m) core.now.stations
+        → MatchResult result (λ at. MaySync c (of core.now.own m) core.now.stations server at) (λ why. refusal_of (sync_plan core.now.own server m) ≡ Some why) }
 {
     let Some(at) = station_at(&core.stations, server) else {
         return Err(Refusal::NoServer);
     };
-    match refusal_at(&core.stations, at, server) {
-        Some(why) => Err(why),
-        None => Ok(at),
+    let station = station_here(&core.stations, at);
+    if !station.live {
+        return Err(Refusal::Dead { server });
     }
+    let log = station.host.log();
+    if log.is_broken() {
+        return Err(Refusal::Broken { log: log.number() });
+    }
+    Ok(at)
 }
 
 /// Commits what is pending at a live server whose log isn't broken, by one call of the store. A call that fails leaves the
@@ -62,8 +48,8 @@ pub fn sync<V: Vault>(
     server: ServerId,
 ) -> Result<Reply, CoreError>
     requires { Standing core.old.own (V.contents own.old) core.old }
-    ensures does { (m : Machine) → Reached m → Stands core.old.own (V.contents own.old) core.old (of core.old.own m)
-        → Answers core.old.own (event.Sync core.old.own server) m (V.contents own.old) core.old (V.contents own.new) core.new result }
+    ensures does { (way : Route) (m : Machine) → Reached way m → is_in way core.old.own ≡ true → Stands core.old.own (V.contents own.old) core.old (of core.old.own m)
+        → Answers way core.old.own (event.Sync core.old.own server) m (V.contents own.old) core.old (V.contents own.new) core.new result }
     ensures counts { Counts (V.tally own.old) (V.tally own.new) }
     ensures told { IfOk result (λ reply. FaultTold core.old.own reply (V.tally own.old) (V.tally own.new)) }
 {

@@ -64,9 +64,6 @@ worded cells h =
       values = λ k x less. value_is (get_or cells k x).kind (AllPass-from_list_all (λ (c : Cell). has_value c.kind) cells d.1 k x less);
     }
 
-pub put_worded : (paired : Bool) (cells : List Cell) → (paired && are_cells cells) ≡ true → AreWorded cells
-put_worded paired cells h = worded cells (all_both paired (are_cells cells) h).1
-
 -- an entry that writes an edit has a frame
 pub write_framed : (region seq marks : ℕ) (edit : EditValue) → 1 ≤ region → region ≤ 4096 → 1 ≤ seq → seq < 2 ^ 64 → 1 ≤ marks → marks ≤ 7 → IsTypedEdit edit → All (λ (c : Cell). HasValue c.kind) edit.cells
     → HasFrame (record { region = region; seq = seq; kind = kind.Write edit; marks = marks; origin = None })

@@ -5,10 +5,11 @@ ghost use Rattle.rep_types.specs.Edit.{edit_length, repeats};
 ghost use Rattle.rep_types.specs.declared.event.Event.TheVariants as event;
 ghost use Rattle.rep_vault.specs.Contents.{Contents};
 ghost use Rattle.wal_entry.specs.Framed.{HasValue, IsTypedEdit};
-ghost use Rattle.rep_model.specs.State.{of};
-ghost use Rattle.rep_model.specs.Row.{first};
-ghost use Rattle.rep_model.specs.Words.{is_worded};
-ghost use Rattle.rep_model.specs.LogEvents.{put_edit, has_family, put_refusals};
+ghost use Rattle.rep_model.specs.State.{Route, of};
+ghost use Rattle.rep_model.specs.Words.{is_in, are_cells};
+ghost use Rattle.rep_model.specs.LogEvents.{put_edit, has_family};
+ghost use Rattle.rep_model.specs.Path.{refusal_of};
+ghost use Rattle.rep_model.specs.PlanRows.{put_plan};
 ghost use Rattle.rep_model.specs.declared.machine.Machine.{Machine};
 ghost use Rattle.cluster_core.specs.Stands.{Stands};
 ghost use Rattle.cluster_core.specs.Does.{Reached, Standing, Answers, FaultTold, Counts};
@@ -51,7 +52,7 @@ fn may_put(core: &ClusterCore, table: &Name, row: &Key, cells: &Cells) -> Result
     ensures short { IfOk result (λ x. edit_length (put_edit table.now row.now cells.now) ≤ 8192) }
     ensures state { (c : Contents) (m : Machine) → Stands core.now.own c core.now (of core.now.own m)
         → MatchResult result (λ x. MayPut core.now.own c table.now row.now cells.now m core.now.stations x.region x.station)
-        (λ why. first (put_refusals core.now.own table.now row.now cells.now m) ≡ Some why) }
+        (λ why. refusal_of (put_plan core.now.own table.now row.now cells.now m) ≡ Some why) }
 {
     let have = edit_length(table, row, cells.as_slice());
     if have > 8192 {
@@ -131,14 +132,14 @@ fn write<V: Vault>(
     ticket: u32,
 ) -> Result<Reply, CoreError>
     requires within { seat.now.station < length core.old.stations }
-    requires seated { (m : Machine) × Reached m × Stands core.old.own (V.contents own.old) core.old (of core.old.own m)
+    requires seated { (way : Route) × (m : Machine) × Reached way m × (is_in way core.old.own ≡ true) × Stands core.old.own (V.contents own.old) core.old (of core.old.own m)
         × MayPut core.old.own (V.contents own.old) edit.table edit.row edit.cells m core.old.stations seat.now.region seat.now.station }
     requires typed { IsTypedEdit edit }
     requires values { All (λ c. HasValue c.kind) edit.cells }
-    ensures does { (m : Machine) → Reached m → Stands core.old.own (V.contents own.old) core.old (of core.old.own m)
+    ensures does { (way : Route) (m : Machine) → Reached way m → is_in way core.old.own ≡ true → Stands core.old.own (V.contents own.old) core.old (of core.old.own m)
         → MayPut core.old.own (V.contents own.old) edit.table edit.row edit.cells m core.old.stations seat.now.region seat.now.station
         → ticket ≡ length m.tickets + 1
-        → Answers core.old.own (event.Put core.old.own edit.table edit.row edit.cells) m (V.contents own.old) core.old (V.contents own.new) core.new result }
+        → Answers way core.old.own (event.Put core.old.own edit.table edit.row edit.cells) m (V.contents own.old) core.old (V.contents own.new) core.new result }
     ensures counts { Counts (V.tally own.old) (V.tally own.new) }
     ensures told { IfOk result (λ reply. FaultTold core.old.own reply (V.tally own.old) (V.tally own.new)) }
 {
@@ -171,10 +172,10 @@ pub fn put<V: Vault>(
     ticket: u32,
 ) -> Result<Reply, CoreError>
     requires standing { Standing core.old.own (V.contents own.old) core.old }
-    requires worded { is_worded (event.Put core.old.own table.now row.now cells) ≡ true }
-    ensures does { (m : Machine) → Reached m → Stands core.old.own (V.contents own.old) core.old (of core.old.own m)
+    requires worded { are_cells cells ≡ true }
+    ensures does { (way : Route) (m : Machine) → Reached way m → is_in way core.old.own ≡ true → Stands core.old.own (V.contents own.old) core.old (of core.old.own m)
         → ticket ≡ length m.tickets + 1
-        → Answers core.old.own (event.Put core.old.own table.now row.now cells) m (V.contents own.old) core.old (V.contents own.new) core.new result }
+        → Answers way core.old.own (event.Put core.old.own table.now row.now cells) m (V.contents own.old) core.old (V.contents own.new) core.new result }
     ensures counts { Counts (V.tally own.old) (V.tally own.new) }
     ensures told { IfOk result (λ reply. FaultTold core.old.own reply (V.tally own.old) (V.tally own.new)) }
 {

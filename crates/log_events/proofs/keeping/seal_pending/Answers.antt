@@ -50,7 +50,7 @@ returns-in-Ok-absorb-clause-does g c = λ side s here sealed o stands.
     let small = c.in-Ok.ensures.server here.station here.there in
     let few = c.in-Ok.ensures.number here.station here.there in
     let frame = c.in-Ok.ensures.frame here.station here.there in
-    let host = c.host_at-host.ensures here.station here.there in
+    let host = ap (λ (x : Station). x.host) (c.station_here-station.ensures here.station here.there) in
     let first = are_first old core side s c.args.at here n sealed c.as_slice.result.now c.number-log.result c.synced-from.result (c.as_slice.ensures ∙ d.2.0)
     (c.number-log.ensures ∙ (ap (λ (w : LogValue). w.number) c.log.ensures.log ∙ ap (λ (h : HostValue). h.log.number) host))
     (c.synced-from.ensures ∙ (ap (λ (w : LogValue). w.synced) c.log-2.ensures.log ∙ ap (λ (h : HostValue). h.log.synced) host)) in
