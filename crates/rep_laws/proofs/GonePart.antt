@@ -1,5 +1,5 @@
 -- Each act keeps that the last commit of a Gone region is a close marker.
-use Rattle.std.proofs.Common.{ℕ, ◌≡◌, ◌==◌, ◌∷◌, inl, inr, Bool, true, false, if◌then◌else◌, List, [], ◌++◌, map, find, Some, refl, ap, sym, ◌∙◌, subst, ne_eqb}
+use Rattle.std.proofs.Common.{ℕ, ◌≡◌, ◌==◌, ◌∷◌, inl, inr, Bool, true, false, if◌then◌else◌, List, [], ◌++◌, map, Some, refl, ap, sym, ◌∙◌, subst, ne_eqb}
 use Rattle.std.specs.List.{AllByRecursion}
 use Rattle.std.proofs.lemmas.Bool.{cond_both, cond-false, false≢true, true≢false}
 use Rattle.std.proofs.lemmas.Option.{same_Some}
@@ -89,9 +89,9 @@ commit_gone c m v new xs ts k o a =
     let K : List Commit = (of c m).commits in
     let more : List Commit = numbered v.number v.log K xs in
     All_both (λ h i closed gone. (
-        let apart : AllByRecursion (λ (y : Commit). y.region.number ≡ h.region.number → ⊥) more = numbered_regions (λ (r : Region). r.number ≡ h.region.number → ⊥) v.number v.log K xs (due_apart c m v new xs ts k o h i gone) in
-        closes_behind h.region.number K more false ∙ (closes_aside h.region.number more (closes_last h.region.number K false) apart ∙ closed gone)
-        )) (of c m).regions (all_in (of c m).regions) a
+    let apart : AllByRecursion (λ (y : Commit). y.region.number ≡ h.region.number → ⊥) more = numbered_regions (λ (r : Region). r.number ≡ h.region.number → ⊥) v.number v.log K xs (due_apart c m v new xs ts k o h i gone) in
+    closes_behind h.region.number K more false ∙ (closes_aside h.region.number more (closes_last h.region.number K false) apart ∙ closed gone)
+    )) (of c m).regions (all_in (of c m).regions) a
 
 turn_closed : (c : Cluster) (m : Machine) (h new : Hosted) → region_of c new.region.number m ≡ Some h → new.region ≡ h.region → Keeps c m h new → GoneIn (of c m) → AllByRecursion (ClosedAt (of c m).commits) (replace (is_region new.region.number) new (of c m).regions)
 turn_closed c m h new there same keeps a =

@@ -1,7 +1,7 @@
 -- Each act keeps that a peer has a queue for the server of each commit after its start.
-use Rattle.std.proofs.Common.{ℕ, zero, suc, ◌≡◌, ◌==◌, ◌⊎◌, inl, inr, not, Bool, true, false, List, [], ◌∷◌, ◌++◌, map, filter, drop, length, find, Some, None, refl, ap, sym, ◌∙◌, subst, ne_eqb, eqb-true, eq-eqb}
+use Rattle.std.proofs.Common.{ℕ, zero, suc, ◌≡◌, ◌==◌, inl, inr, not, true, false, List, [], ◌∷◌, ◌++◌, map, drop, length, find, Some, refl, ap, sym, ◌∙◌, subst, ne_eqb, eqb-true}
 use Rattle.std.specs.List.{AllByRecursion}
-use Rattle.std.proofs.lemmas.Bool.{cond_both, cases_Bool, cases_eq, and_parts, not_from_false, false≢true, true≢false}
+use Rattle.std.proofs.lemmas.Bool.{cond_both, cases_Bool, and_parts, not_from_false, true≢false}
 use Rattle.std.proofs.lemmas.Option.{same_Some}
 use Rattle.rep_types.specs.declared.ids.Cluster.{Cluster}
 use Rattle.rep_types.specs.declared.ids.Cluster.TheVariants.{A, B, C}
@@ -33,7 +33,7 @@ use Rattle.rep_laws.proofs.Numbering.{found_key, replaced_keyed}
 use Rattle.rep_laws.proofs.SeatPart.{Rests, Seats, SeatIn, seats_at, served_live, nowhere}
 use Rattle.rep_laws.proofs.QueuesPart.{HasQueue, Queued, QueueIn, queued_at, in_or_replaced}
 use Rattle.rep_laws.proofs.ActSides.{entries_committed}
-use Rattle.rep_laws.proofs.Acts.{Committing, IsDue, Widens, Act, LinkStands, TicketsEnd, ServerJoins, ServerStands, ServerDies, RegionsJoin, RegionTurns, EntryPends, PutPends, EntriesCommit, PeerJoins, PeerStands, PeerLeaves, PeersRestart, QueueStands, FormsTurn, FlightJoins, FlightStands}
+use Rattle.rep_laws.proofs.Acts.{Committing, IsDue, Act, LinkStands, TicketsEnd, ServerJoins, ServerStands, ServerDies, RegionsJoin, RegionTurns, EntryPends, PutPends, EntriesCommit, PeerJoins, PeerStands, PeerLeaves, PeersRestart, QueueStands, FormsTurn, FlightJoins, FlightStands}
 
 -- the peer has a queue for the server of each of these commits
 abbrev pub Served : List Queue → ℕ → List Commit → Type 0
@@ -145,11 +145,11 @@ restart_owed F K servers peers qs d a =
     All_mapped (Owed K new) (restarted (length K)) peers (All_both (λ p i owed. cond_both (is_synchronous p.kind) (record p { start = length K; serial_start = length K }) p (Owed K new)
     (λ _. owed_at_end K new (record p { start = length K; serial_start = length K }) refl)
     (λ plain. queues_owed K qs new p (λ s h. restart_keeps F servers p.number s peers qs (All_weaker (λ r j sync e. (
-        let mine : find (is_peer r.number) peers ≡ Some r = found_key (λ (z : Peer). z.number) r peers d j in
-        let its : find (is_peer p.number) peers ≡ Some p = found_key (λ (z : Peer). z.number) p peers d i in
-        let one : p ≡ r = same_Some p r (sym its ∙ (ap (λ n. find (is_peer n) peers) e ∙ mine)) in
-        true≢false (sym sync ∙ (ap (λ (z : Peer). is_synchronous z.kind) (sym one) ∙ plain))
-        )) peers (all_in peers)) h) owed)) peers (all_in peers) a)
+    let mine : find (is_peer r.number) peers ≡ Some r = found_key (λ (z : Peer). z.number) r peers d j in
+    let its : find (is_peer p.number) peers ≡ Some p = found_key (λ (z : Peer). z.number) p peers d i in
+    let one : p ≡ r = same_Some p r (sym its ∙ (ap (λ n. find (is_peer n) peers) e ∙ mine)) in
+    true≢false (sym sync ∙ (ap (λ (z : Peer). is_synchronous z.kind) (sym one) ∙ plain))
+    )) peers (all_in peers)) h) owed)) peers (all_in peers) a)
 
 -- a queue gives way to one of its key
 replaced_queue : (new : Queue) (p s : ℕ) (qs : List Queue) → HasQueue p s qs → HasQueue p s (replace (is_queue new.peer new.server) new qs)

@@ -1,13 +1,12 @@
 -- Ranges of keys: which key a region holds, where two regions meet, and what halves and joined regions hold.
-use Rattle.std.proofs.Common.{ℕ, ◌+◌, ◌<◌, ◌≤◌, ◌≡◌, ◌==◌, ◌⊎◌, ◌&&◌, ◌||◌, inl, inr, not, nat_le, nat_lt, Bool, true, false, List, [], ◌∷◌, ◌++◌, length, find, Option, Some, None, refl, ap, sym, ◌∙◌, subst, arith, codes, bytes_eq, Ordering, cond, le_refl}
-use Rattle.std.specs.List.{AllByRecursion}
+use Rattle.std.proofs.Common.{ℕ, ◌≤◌, ◌≡◌, ◌==◌, ◌⊎◌, inl, inr, not, nat_lt, true, false, List, [], ◌∷◌, find, Option, Some, None, refl, ap, sym, ◌∙◌, subst, arith, codes, bytes_eq, Ordering, cond}
 use Rattle.std.specs.declared.cmp.Ordering.TheVariants.{Less, Equal, Greater}
 use Rattle.std.specs.Ordering.{is_lt, nat_cmp, ordering_reverse, ordering_then}
 use Rattle.std.specs.Cmp.Lexicographic.{slice_cmp}
-use Rattle.std.proofs.lemmas.Bool.{false≢true, true≢false, and_parts, and_from, not-true, not-false, not_from_false, cases_Bool, cases_eq, cond-true, cond-false, lt-ltb, le-ltb, eq-eqb, true_from_ne_false, false_from_ne_true}
+use Rattle.std.proofs.lemmas.Bool.{false≢true, true≢false, and_parts, and_from, not-true, not_from_false, cases_Bool, cases_eq, cond-true, cond-false, lt-ltb, le-ltb, eq-eqb}
 use Rattle.std.proofs.lemmas.Bool.Decides.{nat_tests}
 use Rattle.std.proofs.lemmas.Cmp.{nat_list_cmp_total}
-use Rattle.rep_types.specs.Text.{key_byte, key_refusal}
+use Rattle.rep_types.specs.Text.{key_byte}
 use Rattle.rep_types.specs.Range.{key_below, is_from, is_below, begins_below}
 use Rattle.rep_model.specs.State.{is_region}
 use Rattle.rep_model.specs.Regions.{holds, overlap, same_key, is_adjacent}
@@ -120,8 +119,8 @@ overlap_meets r s o q a b h =
     }
 
 -- a region that begins below its end overlaps itself
-pub overlaps_itself : (r : Region) → Ranged r → overlap r r ≡ true
-overlaps_itself r o = and_from _ _ (named r.table.name) (and_from _ _ o.begins o.begins)
+pub overlaps_itself : (r : Region) → begins_below r.low r.high ≡ true → overlap r r ≡ true
+overlaps_itself r b = and_from _ _ (named r.table.name) (and_from _ _ b b)
 
 -- below a key that is below an end, and from one on that isn't below a low one
 

@@ -1,9 +1,11 @@
 -- What regions hold: the keys of their ranges, and what their parents held.
 use Rattle.std.specs.Prelude.{ℕ, ◌≡◌, true, List, [], ◌∷◌, Option, Some, None, find, codes, ◌⊎◌}
+use Rattle.std.specs.List.{AllByRecursion}
 use Rattle.rep_types.specs.Text.{key_refusal}
 use Rattle.rep_types.specs.Range.{begins_below}
 use Rattle.rep_types.specs.declared.entry.EntryKind.TheVariants as kind
-use Rattle.rep_model.specs.State.{of, is_region}
+use Rattle.rep_types.specs.declared.state.PlaceOf.TheVariants as place
+use Rattle.rep_model.specs.State.{is_region}
 use Rattle.rep_model.specs.Regions.{holds, overlap}
 use Rattle.rep_model.specs.Commits.{commit_count}
 use Rattle.rep_model.specs.Queues.{last_of}
@@ -52,3 +54,24 @@ pub record EndsClosed (h : Hosted) (commits : List Commit) : Type 0 where
   pub last : last_of h.region.number commits None ≡ Some marker
   pub closed : marker.kind ≡ kind.Closed
   pub seq : marker.seq ≡ commit_count h.region.number commits
+
+-- what holds of each region of a cluster
+
+abbrev pub Begins : Hosted → Type 0
+Begins h = begins_below h.region.low h.region.high ≡ true
+
+-- it holds the lowest key of its range
+abbrev pub HoldsFirst : Hosted → Type 0
+HoldsFirst h = IsBounded h.region → holds h.region.table.name (first_key h.region.low) h.region ≡ true
+
+-- some key is held by it and by each region that it overlaps
+abbrev pub MeetsEach : List Hosted → Hosted → Type 0
+MeetsEach regions h = AllByRecursion (λ (g : Hosted). IsBounded h.region → IsBounded g.region → overlap h.region g.region ≡ true → Meet h.region g.region) regions
+
+-- it is a table's first region, or comes from its parents
+abbrev pub HasOrigin : List Hosted → Hosted → Type 0
+HasOrigin regions h = (h.region.parents ≡ []) ⊎ ComesFrom regions h.region
+
+-- once it is Gone its last commit is a close marker
+abbrev pub GoneIsClosed : List Commit → Hosted → Type 0
+GoneIsClosed commits h = h.place ≡ place.Gone → EndsClosed h commits
