@@ -46,3 +46,7 @@ event_text (event.MakeFolder c) = codes "makefolder " ++ cluster_text c
 event_text (event.PromoteBegin c) = codes "promotebegin " ++ cluster_text c
 event_text (event.Replay c) = codes "replay " ++ cluster_text c
 event_text (event.PromoteEnd c) = codes "promoteend " ++ cluster_text c
+event_text (event.OldQueues c) = codes "oldqueues " ++ cluster_text c
+event_text (event.MigrateBegin c) = codes "migratebegin " ++ cluster_text c
+event_text (event.Migrate c p s) = codes "migrate " ++ cluster_text c ++ codes " " ++ decimal p ++ codes " " ++ decimal s
+event_text (event.MigrateEnd c) = codes "migrateend " ++ cluster_text c

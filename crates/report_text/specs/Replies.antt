@@ -97,6 +97,10 @@ refusal_text (refusal.Owned s) = codes "owned by=" ++ decimal s
 refusal_text (refusal.WrongState have phase) = wrongstate_text have phase
 refusal_text (refusal.NotReady s) = codes "notready server=" ++ decimal s
 refusal_text refusal.NoRemoteFolder = codes "noremotefolder"
+refusal_text refusal.NotOld = codes "notold"
+refusal_text refusal.NotMixed = codes "notmixed"
+refusal_text refusal.Migrated = codes "migrated"
+refusal_text (refusal.Unmigrated p s) = codes "unmigrated queue=" ++ decimal p ++ codes "/" ++ decimal s
 
 -- the reply without the cells that it shows
 abbrev pub reply_text : Reply → List ℕ

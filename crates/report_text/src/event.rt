@@ -96,5 +96,13 @@ pub fn write_event(out: &mut Vec<u8>, event: &Event) -> io::Result<()>
         Event::PromoteBegin { cluster } => write!(out, "promotebegin {cluster}"),
         Event::Replay { cluster } => write!(out, "replay {cluster}"),
         Event::PromoteEnd { cluster } => write!(out, "promoteend {cluster}"),
+        Event::OldQueues { cluster } => write!(out, "oldqueues {cluster}"),
+        Event::MigrateBegin { cluster } => write!(out, "migratebegin {cluster}"),
+        Event::Migrate {
+            cluster,
+            peer,
+            server,
+        } => write!(out, "migrate {cluster} {peer} {server}"),
+        Event::MigrateEnd { cluster } => write!(out, "migrateend {cluster}"),
     }
 }

@@ -115,5 +115,9 @@ pub fn write_refusal(out: &mut Vec<u8>, refusal: &Refusal) -> io::Result<()>
         Refusal::WrongState { have, phase } => write_wrongstate(out, *have, phase),
         Refusal::NotReady { server } => write!(out, "notready server={server}"),
         Refusal::NoRemoteFolder => write!(out, "noremotefolder"),
+        Refusal::NotOld => write!(out, "notold"),
+        Refusal::NotMixed => write!(out, "notmixed"),
+        Refusal::Migrated => write!(out, "migrated"),
+        Refusal::Unmigrated { peer, server } => write!(out, "unmigrated queue={peer}/{server}"),
     }
 }

@@ -4,13 +4,12 @@ use Rattle.rep_types.specs.declared.record.Record.{Record}
 use Rattle.rep_types.specs.declared.reply.Reply.{Reply}
 use Rattle.rep_types.specs.declared.view.DrainEnd.TheVariants.{Drained}
 use Rattle.rep_model.specs.Keyed.{given}
-use Rattle.rep_model.specs.Runs.{state_from}
 use Rattle.rep_model.specs.State.{opening}
 use Rattle.rep_model.specs.declared.machine.Machine.{Machine}
 use Rattle.script_text.specs.declared.command.Command.{Command}
 use Rattle.script_text.specs.declared.command.Command.TheVariants as command
 use Rattle.script_text.specs.Drains.{numbers, start, drain_event, drain_end}
-use Rattle.script_text.specs.Due.{reply_in, goes_on, due, Does, ExpandsFrom}
+use Rattle.script_text.specs.Due.{reply_in, goes_on, after_records, due, Does, ExpandsFrom}
 use Rattle.script_text.specs.Expansion.{passes, asks_state, next_event, GoesOn, Performs, Expands}
 
 pub due-same : (c : Command) (m : Machine) (rs : List Record) → asks_state c ≡ false → due c m rs ≡ next_event c (map reply_in rs)
@@ -50,7 +49,7 @@ asks_some (c ∷ cs) = (asks_state c ≡ false) × asks_some cs
 pub expands-from : (m : Machine) (cs : List Command) (records : List Record) → asks_some cs → Expands cs records → ExpandsFrom m cs records
 expands-from m [] records h e = e
 expands-from m (c ∷ cs) records h e =
-    (e.0, e.1, e.2, does c m [] e.0 h.0 e.3, expands-from (state_from m e.0) cs e.1 h.1 e.4)
+    (e.0, e.1, e.2, does c m [] e.0 h.0 e.3, expands-from (after_records m e.0) cs e.1 h.1 e.4)
 
 -- a command that asks for the state too goes on where its last reply passes
 pub last-passes : (rs : List Record) (xs : List Reply) (x : Reply) → map reply_in rs ≡ xs ++ x ∷ [] → goes_on rs ≡ passes x

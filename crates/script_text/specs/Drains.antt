@@ -15,7 +15,7 @@ use Rattle.rep_types.specs.declared.view.DrainEnd.TheVariants as ending
 use Rattle.rep_types.specs.declared.view.StuckCause.{StuckCause}
 use Rattle.rep_types.specs.declared.view.StuckCause.TheVariants as stuck
 use Rattle.rep_model.specs.Keyed.{given, if_some}
-use Rattle.rep_model.specs.State.{of, other, mark, server_of, queue_of, flight_of}
+use Rattle.rep_model.specs.State.{of, Pair, other, mark, server_of, queue_of, flight_of}
 use Rattle.rep_model.specs.Peers.{is_enabled, peer_of}
 use Rattle.rep_model.specs.Places.{seat}
 use Rattle.rep_model.specs.Queues.{queue, batch}
@@ -154,7 +154,7 @@ abbrev pub is_host : Machine → Cluster → ℕ → Form → Bool
 is_host m c s form = if_some (seat c form.edit.table form.edit.row m) (λ x. x.server.number == s)
 
 abbrev pub hosts : ℕ → Machine → List ℕ
-hosts k m = given (flight_of k m) [] (λ f. filter (λ s. list_any (is_host m (other f.cluster) s) (flight_forms f)) (live_servers (other f.cluster) m))
+hosts k m = given (flight_of k m) [] (λ f. filter (λ s. list_any (is_host m (other f.cluster) s) (flight_forms Pair f)) (live_servers (other f.cluster) m))
 
 -- the logs of these servers are synced and rolled, and the flight is delivered once more
 abbrev pub rolls : List ℕ → ℕ → Step

@@ -17,7 +17,7 @@ use Rattle.script_text.specs.declared.rule.Rule.{Rule}
 use Rattle.script_text.specs.declared.rule.Rule.TheVariants as rule
 use Rattle.script_text.specs.Heads.{head_of, is_barred, is_performed}
 use Rattle.script_text.specs.Lines.{begins_with}
-use Rattle.script_text.specs.Meanings.{alone, on_cluster, on_server, on_region, on_peer, on_place, on_flight, ship, send, merge, claim, transit, fail, keep, table, get, show, split, peer}
+use Rattle.script_text.specs.Meanings.{alone, on_cluster, on_server, on_region, on_peer, on_queue, on_place, on_flight, send, merge, claim, transit, fail, keep, table, get, show, split, peer}
 use Rattle.script_text.specs.Parsing.{rule_number}
 use Rattle.script_text.specs.Puts.{put}
 use Rattle.script_text.specs.Steps.{◌>>=◌, and_then}
@@ -45,6 +45,7 @@ meaning repeated (head.OnCluster word) args = of_command repeated (on_cluster wo
 meaning repeated (head.OnServer word) args = of_command repeated (on_server word args)
 meaning repeated (head.OnRegion word) args = of_command repeated (on_region word args)
 meaning repeated (head.OnPeer word) args = of_command repeated (on_peer word args)
+meaning repeated (head.OnQueue word) args = of_command repeated (on_queue word args)
 meaning repeated (head.OnPlace word) args = of_command repeated (on_place word args)
 meaning repeated (head.OnFlight word) args = of_command repeated (on_flight word args)
 meaning repeated (head.Alone word) args = of_command repeated (alone word args)
@@ -55,7 +56,6 @@ meaning repeated head.Show args = of_command repeated (show args)
 meaning repeated head.Split args = of_command repeated (split args)
 meaning repeated head.Merge args = of_command repeated (merge args)
 meaning repeated head.Peer args = of_command repeated (peer args)
-meaning repeated head.Ship args = of_command repeated (ship args)
 meaning repeated head.Send args = of_command repeated (send args)
 meaning repeated head.Claim args = of_command repeated (claim args)
 meaning repeated head.TransitBegin args = of_command repeated (transit args)

@@ -12,6 +12,8 @@ use Rattle.script_text.specs.declared.head.OnRegion.{OnRegion}
 use Rattle.script_text.specs.declared.head.OnRegion.TheVariants as on_region
 use Rattle.script_text.specs.declared.head.OnPeer.{OnPeer}
 use Rattle.script_text.specs.declared.head.OnPeer.TheVariants as on_peer
+use Rattle.script_text.specs.declared.head.OnQueue.{OnQueue}
+use Rattle.script_text.specs.declared.head.OnQueue.TheVariants as on_queue
 use Rattle.script_text.specs.declared.head.OnPlace.{OnPlace}
 use Rattle.script_text.specs.declared.head.OnPlace.TheVariants as on_place
 use Rattle.script_text.specs.declared.head.OnFlight.{OnFlight}
@@ -29,10 +31,13 @@ on_cluster_word word =
     (if bytes_eq word (codes "promotebegin") then Some on_cluster.PromoteBegin else
     (if bytes_eq word (codes "replay") then Some on_cluster.Replay else
     (if bytes_eq word (codes "promoteend") then Some on_cluster.PromoteEnd else
+    (if bytes_eq word (codes "oldqueues") then Some on_cluster.OldQueues else
+    (if bytes_eq word (codes "migratebegin") then Some on_cluster.MigrateBegin else
+    (if bytes_eq word (codes "migrateend") then Some on_cluster.MigrateEnd else
     (if bytes_eq word (codes "syncall") then Some on_cluster.SyncAll else
     (if bytes_eq word (codes "promote") then Some on_cluster.Promote else
     (if bytes_eq word (codes "queues") then Some on_cluster.Queues else
-    (if bytes_eq word (codes "regions") then Some on_cluster.Regions else None))))))))
+    (if bytes_eq word (codes "regions") then Some on_cluster.Regions else None)))))))))))
 
 -- a word with a cluster and a server
 unfoldable pub on_server_word : List ℕ → Option OnServer
@@ -62,7 +67,14 @@ unfoldable pub on_peer_word : List ℕ → Option OnPeer
 on_peer_word word =
     if bytes_eq word (codes "enable") then Some on_peer.Enable else
     (if bytes_eq word (codes "disable") then Some on_peer.Disable else
-    (if bytes_eq word (codes "remove") then Some on_peer.Remove else None))
+    (if bytes_eq word (codes "remove") then Some on_peer.Remove else
+    (if bytes_eq word (codes "makeserial") then Some on_peer.MakeSerial else None)))
+
+-- a word with a cluster, a peer and a server
+unfoldable pub on_queue_word : List ℕ → Option OnQueue
+on_queue_word word =
+    if bytes_eq word (codes "ship") then Some on_queue.Ship else
+    (if bytes_eq word (codes "migrate") then Some on_queue.Migrate else None)
 
 -- a word with a cluster, a region and a server
 unfoldable pub on_place_word : List ℕ → Option OnPlace
@@ -95,12 +107,11 @@ other_word word =
     (if bytes_eq word (codes "split") then Some head.Split else
     (if bytes_eq word (codes "merge") then Some head.Merge else
     (if bytes_eq word (codes "peer") then Some head.Peer else
-    (if bytes_eq word (codes "ship") then Some head.Ship else
     (if bytes_eq word (codes "send") then Some head.Send else
     (if bytes_eq word (codes "claim") then Some head.Claim else
     (if bytes_eq word (codes "transitbegin") then Some head.TransitBegin else
     (if bytes_eq word (codes "fail") then Some head.Fail else
-    (if bytes_eq word (codes "keep") then Some head.Keep else None))))))))))))
+    (if bytes_eq word (codes "keep") then Some head.Keep else None)))))))))))
 
 -- the command that a word begins
 unfoldable pub head_of : List ℕ → Option Head
@@ -109,10 +120,11 @@ head_of word =
     (option_or (option_map head.OnServer (on_server_word word))
     (option_or (option_map head.OnRegion (on_region_word word))
     (option_or (option_map head.OnPeer (on_peer_word word))
+    (option_or (option_map head.OnQueue (on_queue_word word))
     (option_or (option_map head.OnPlace (on_place_word word))
     (option_or (option_map head.OnFlight (on_flight_word word))
     (option_or (option_map head.Alone (alone_word word))
-    (other_word word)))))))
+    (other_word word))))))))
 
 -- the program performs the command; some it doesn't yet
 abbrev pub is_performed : Head → Bool
@@ -121,6 +133,8 @@ is_performed (head.OnCluster on_cluster.Queues) = true
 is_performed (head.OnCluster on_cluster.Regions) = true
 is_performed (head.OnCluster word) = false
 is_performed (head.OnPeer word) = false
+is_performed (head.OnQueue on_queue.Ship) = true
+is_performed (head.OnQueue on_queue.Migrate) = false
 is_performed (head.OnServer on_server.Sweep) = false
 is_performed (head.OnServer on_server.SweepRemote) = false
 is_performed (head.OnServer on_server.Mirror) = false

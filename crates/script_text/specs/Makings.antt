@@ -12,6 +12,8 @@ use Rattle.script_text.specs.declared.head.OnRegion.{OnRegion}
 use Rattle.script_text.specs.declared.head.OnRegion.TheVariants as on_region
 use Rattle.script_text.specs.declared.head.OnPeer.{OnPeer}
 use Rattle.script_text.specs.declared.head.OnPeer.TheVariants as on_peer
+use Rattle.script_text.specs.declared.head.OnQueue.{OnQueue}
+use Rattle.script_text.specs.declared.head.OnQueue.TheVariants as on_queue
 use Rattle.script_text.specs.declared.head.OnPlace.{OnPlace}
 use Rattle.script_text.specs.declared.head.OnPlace.TheVariants as on_place
 use Rattle.script_text.specs.declared.head.OnFlight.{OnFlight}
@@ -25,6 +27,9 @@ cluster_command on_cluster.MakeFolder c = command.Single (event.MakeFolder c)
 cluster_command on_cluster.PromoteBegin c = command.Single (event.PromoteBegin c)
 cluster_command on_cluster.Replay c = command.Single (event.Replay c)
 cluster_command on_cluster.PromoteEnd c = command.Single (event.PromoteEnd c)
+cluster_command on_cluster.OldQueues c = command.Single (event.OldQueues c)
+cluster_command on_cluster.MigrateBegin c = command.Single (event.MigrateBegin c)
+cluster_command on_cluster.MigrateEnd c = command.Single (event.MigrateEnd c)
 cluster_command on_cluster.SyncAll c = command.SyncAll c
 cluster_command on_cluster.Promote c = command.Promote c
 cluster_command on_cluster.Queues c = command.Queues c
@@ -53,6 +58,11 @@ abbrev pub peer_command : OnPeer → Cluster → ℕ → Command
 peer_command on_peer.Enable c p = command.Single (event.Enable c p)
 peer_command on_peer.Disable c p = command.Single (event.Disable c p)
 peer_command on_peer.Remove c p = command.Single (event.Remove c p)
+peer_command on_peer.MakeSerial c p = command.Single (event.MakeSerial c p)
+
+abbrev pub queue_command : OnQueue → Cluster → ℕ → ℕ → Command
+queue_command on_queue.Ship c p s = command.Ship c p s
+queue_command on_queue.Migrate c p s = command.Single (event.Migrate c p s)
 
 abbrev pub place_command : OnPlace → Cluster → ℕ → ℕ → Command
 place_command on_place.OpenBegin c r s = command.Single (event.OpenBegin c r s)

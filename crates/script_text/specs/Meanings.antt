@@ -9,6 +9,7 @@ use Rattle.script_text.specs.declared.head.OnCluster.{OnCluster}
 use Rattle.script_text.specs.declared.head.OnServer.{OnServer}
 use Rattle.script_text.specs.declared.head.OnRegion.{OnRegion}
 use Rattle.script_text.specs.declared.head.OnPeer.{OnPeer}
+use Rattle.script_text.specs.declared.head.OnQueue.{OnQueue}
 use Rattle.script_text.specs.declared.head.OnPlace.{OnPlace}
 use Rattle.script_text.specs.declared.head.OnFlight.{OnFlight}
 use Rattle.script_text.specs.declared.head.Alone.{Alone}
@@ -17,7 +18,7 @@ use Rattle.script_text.specs.declared.rule.Rule.TheVariants as rule
 use Rattle.script_text.specs.Forms.{number_word, cluster_word, name_word, key_word, kind_word, state_word, call_word}
 use Rattle.script_text.specs.Heads.{is_performed_kind}
 use Rattle.script_text.specs.Lists.{specs_word, tables_word}
-use Rattle.script_text.specs.Makings.{cluster_command, server_command, region_command, peer_command, place_command, flight_command, alone_command}
+use Rattle.script_text.specs.Makings.{cluster_command, server_command, region_command, peer_command, queue_command, place_command, flight_command, alone_command}
 use Rattle.script_text.specs.Steps.{◌>>=◌}
 use Rattle.script_text.specs.Words.{has_word, one_word, two_words, three_words, four_words}
 
@@ -60,14 +61,14 @@ on_region word args = cluster_and_one args >>= λ (c, x). number_word 1 4096 x >
 unfoldable pub on_peer : OnPeer → List (List ℕ) → Result Command Rule
 on_peer word args = cluster_and_one args >>= λ (c, x). number_word 1 4 x >>= λ p. Ok (peer_command word c p)
 
+unfoldable pub on_queue : OnQueue → List (List ℕ) → Result Command Rule
+on_queue word args = cluster_and_two args >>= λ (c, x, y). number_word 1 4 x >>= λ p. number_word 1 64 y >>= λ s. Ok (queue_command word c p s)
+
 unfoldable pub on_place : OnPlace → List (List ℕ) → Result Command Rule
 on_place word args = cluster_and_two args >>= λ (c, x, y). number_word 1 4096 x >>= λ r. number_word 1 64 y >>= λ s. Ok (place_command word c r s)
 
 unfoldable pub on_flight : OnFlight → List (List ℕ) → Result Command Rule
 on_flight word args = one_word args >>= λ x. number_word 1 4294967295 x >>= λ f. Ok (flight_command word f)
-
-unfoldable pub ship : List (List ℕ) → Result Command Rule
-ship args = cluster_and_two args >>= λ (c, x, y). number_word 1 4 x >>= λ p. number_word 1 64 y >>= λ s. Ok (command.Ship c p s)
 
 -- a `send` without its number sends at most 25 entries
 unfoldable pub send : List (List ℕ) → Result Command Rule

@@ -1,8 +1,8 @@
 // The first words of commands, by what comes behind them.
-#![tactic(auto, unfolding(crate::specs::Heads::on_cluster_word, crate::specs::Heads::on_server_word, crate::specs::Heads::on_region_word, crate::specs::Heads::on_peer_word, crate::specs::Heads::on_place_word, crate::specs::Heads::on_flight_word, crate::specs::Heads::alone_word, crate::specs::Heads::other_word, crate::specs::Heads::head_of))]
+#![tactic(auto, unfolding(crate::specs::Heads::on_cluster_word, crate::specs::Heads::on_server_word, crate::specs::Heads::on_region_word, crate::specs::Heads::on_peer_word, crate::specs::Heads::on_queue_word, crate::specs::Heads::on_place_word, crate::specs::Heads::on_flight_word, crate::specs::Heads::alone_word, crate::specs::Heads::other_word, crate::specs::Heads::head_of))]
 
 ghost use Rattle.std.specs.Prelude.{◌≡◌};
-ghost use Rattle.script_text.specs.Heads.{on_cluster_word, on_server_word, on_region_word, on_peer_word, on_place_word, on_flight_word, alone_word, other_word, head_of, is_performed, is_performed_kind, is_barred};
+ghost use Rattle.script_text.specs.Heads.{on_cluster_word, on_server_word, on_region_word, on_peer_word, on_queue_word, on_place_word, on_flight_word, alone_word, other_word, head_of, is_performed, is_performed_kind, is_barred};
 
 use crate::forms::is_text;
 use rep_types::Kind;
@@ -15,6 +15,9 @@ pub enum OnCluster {
     PromoteBegin,
     Replay,
     PromoteEnd,
+    OldQueues,
+    MigrateBegin,
+    MigrateEnd,
     SyncAll,
     Promote,
     Queues,
@@ -52,6 +55,14 @@ pub enum OnPeer {
     Enable,
     Disable,
     Remove,
+    MakeSerial,
+}
+
+/// A word with a cluster, a peer and a server.
+#[derive(Clone, Copy)]
+pub enum OnQueue {
+    Ship,
+    Migrate,
 }
 
 /// A word with a cluster, a region and a server.
@@ -85,6 +96,7 @@ pub enum Head {
     OnServer(OnServer),
     OnRegion(OnRegion),
     OnPeer(OnPeer),
+    OnQueue(OnQueue),
     OnPlace(OnPlace),
     OnFlight(OnFlight),
     Alone(Alone),
@@ -95,7 +107,6 @@ pub enum Head {
     Split,
     Merge,
     Peer,
-    Ship,
     Send,
     Claim,
     TransitBegin,
@@ -120,6 +131,15 @@ fn on_cluster_word(word: &[u8]) -> Option<OnCluster>
     }
     if is_text(word, b"promoteend") {
         return Some(OnCluster::PromoteEnd);
+    }
+    if is_text(word, b"oldqueues") {
+        return Some(OnCluster::OldQueues);
+    }
+    if is_text(word, b"migratebegin") {
+        return Some(OnCluster::MigrateBegin);
+    }
+    if is_text(word, b"migrateend") {
+        return Some(OnCluster::MigrateEnd);
     }
     if is_text(word, b"syncall") {
         return Some(OnCluster::SyncAll);
@@ -205,6 +225,21 @@ fn on_peer_word(word: &[u8]) -> Option<OnPeer>
     if is_text(word, b"remove") {
         return Some(OnPeer::Remove);
     }
+    if is_text(word, b"makeserial") {
+        return Some(OnPeer::MakeSerial);
+    }
+    None
+}
+
+fn on_queue_word(word: &[u8]) -> Option<OnQueue>
+    ensures { result ≡ on_queue_word word.now }
+{
+    if is_text(word, b"ship") {
+        return Some(OnQueue::Ship);
+    }
+    if is_text(word, b"migrate") {
+        return Some(OnQueue::Migrate);
+    }
     None
 }
 
@@ -277,9 +312,6 @@ fn other_word(word: &[u8]) -> Option<Head>
     if is_text(word, b"peer") {
         return Some(Head::Peer);
     }
-    if is_text(word, b"ship") {
-        return Some(Head::Ship);
-    }
     if is_text(word, b"send") {
         return Some(Head::Send);
     }
@@ -314,6 +346,9 @@ pub fn head_of(word: &[u8]) -> Option<Head>
     if let Some(found) = on_peer_word(word) {
         return Some(Head::OnPeer(found));
     }
+    if let Some(found) = on_queue_word(word) {
+        return Some(Head::OnQueue(found));
+    }
     if let Some(found) = on_place_word(word) {
         return Some(Head::OnPlace(found));
     }
@@ -337,6 +372,7 @@ pub fn is_performed(head: Head) -> bool
             OnCluster::SyncAll | OnCluster::Queues | OnCluster::Regions
         ),
         Head::OnPeer(_) => false,
+        Head::OnQueue(word) => matches!(word, OnQueue::Ship),
         Head::OnServer(word) => !matches!(
             word,
             OnServer::Sweep | OnServer::SweepRemote | OnServer::Mirror

@@ -9,8 +9,8 @@ use crate::head::{Alone, Head, head_of, is_barred, is_performed};
 use crate::kept::{get, peer, show, split, table};
 use crate::put::put;
 use crate::read::{
-    alone, claim, fail, keep, merge, on_cluster, on_flight, on_peer, on_place, on_region,
-    on_server, send, ship, transit,
+    alone, claim, fail, keep, merge, on_cluster, on_flight, on_peer, on_place, on_queue, on_region,
+    on_server, send, transit,
 };
 use crate::words::first_word;
 use crate::{Command, Input, Rule};
@@ -96,6 +96,7 @@ pub fn meaning(
         Head::OnServer(word) => on_server(word, text),
         Head::OnRegion(word) => on_region(word, text),
         Head::OnPeer(word) => on_peer(word, text),
+        Head::OnQueue(word) => on_queue(word, text),
         Head::OnPlace(word) => on_place(word, text),
         Head::OnFlight(word) => on_flight(word, text),
         Head::Alone(word) => alone(word, text),
@@ -106,7 +107,6 @@ pub fn meaning(
         Head::Split => split(alloc, text)?,
         Head::Peer => peer(alloc, text)?,
         Head::Merge => merge(text),
-        Head::Ship => ship(text),
         Head::Send => send(text),
         Head::Claim => claim(text),
         Head::TransitBegin => transit(text),

@@ -1,9 +1,9 @@
 // The commands of words with one form.
 ghost use Rattle.std.specs.Prelude.{◌≡◌};
-ghost use Rattle.script_text.specs.Makings.{cluster_command, server_command, region_command, peer_command, place_command, flight_command, alone_command};
+ghost use Rattle.script_text.specs.Makings.{cluster_command, server_command, region_command, peer_command, queue_command, place_command, flight_command, alone_command};
 
 use crate::Command;
-use crate::head::{Alone, OnCluster, OnFlight, OnPeer, OnPlace, OnRegion, OnServer};
+use crate::head::{Alone, OnCluster, OnFlight, OnPeer, OnPlace, OnQueue, OnRegion, OnServer};
 use rep_types::{Cluster, Event, PeerId, RegionId, ServerId};
 
 pub fn cluster_command(word: OnCluster, cluster: Cluster) -> Command
@@ -15,6 +15,9 @@ pub fn cluster_command(word: OnCluster, cluster: Cluster) -> Command
         OnCluster::PromoteBegin => Command::Single(Event::PromoteBegin { cluster }),
         OnCluster::Replay => Command::Single(Event::Replay { cluster }),
         OnCluster::PromoteEnd => Command::Single(Event::PromoteEnd { cluster }),
+        OnCluster::OldQueues => Command::Single(Event::OldQueues { cluster }),
+        OnCluster::MigrateBegin => Command::Single(Event::MigrateBegin { cluster }),
+        OnCluster::MigrateEnd => Command::Single(Event::MigrateEnd { cluster }),
         OnCluster::SyncAll => Command::SyncAll { cluster },
         OnCluster::Promote => Command::Promote { cluster },
         OnCluster::Queues => Command::Queues { cluster },
@@ -58,7 +61,25 @@ pub fn peer_command(word: OnPeer, cluster: Cluster, peer: PeerId) -> Command
         OnPeer::Enable => Event::Enable { cluster, peer },
         OnPeer::Disable => Event::Disable { cluster, peer },
         OnPeer::Remove => Event::Remove { cluster, peer },
+        OnPeer::MakeSerial => Event::MakeSerial { cluster, peer },
     })
+}
+
+pub fn queue_command(word: OnQueue, cluster: Cluster, peer: PeerId, server: ServerId) -> Command
+    ensures { result ≡ queue_command word cluster peer server }
+{
+    match word {
+        OnQueue::Ship => Command::Ship {
+            cluster,
+            peer,
+            server,
+        },
+        OnQueue::Migrate => Command::Single(Event::Migrate {
+            cluster,
+            peer,
+            server,
+        }),
+    }
 }
 
 pub fn place_command(word: OnPlace, cluster: Cluster, region: RegionId, server: ServerId) -> Command

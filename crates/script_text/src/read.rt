@@ -2,17 +2,17 @@
 #![tactic(auto, unfolding(crate::specs::Meanings::cluster_alone, crate::specs::Meanings::cluster_and_one, crate::specs::Meanings::cluster_and_two, crate::specs::Meanings::cluster_and_three))]
 
 ghost use Rattle.std.specs.Prelude.{◌≡◌, Ok, Err, IfOk, IfErr};
-ghost use Rattle.script_text.specs.Meanings.{cluster_alone, cluster_and_one, cluster_and_two, cluster_and_three, some_words, cluster_and_some, alone, on_cluster, on_server, on_region, on_peer, on_place, on_flight, ship, send, merge, claim, transit, fail, keep};
+ghost use Rattle.script_text.specs.Meanings.{cluster_alone, cluster_and_one, cluster_and_two, cluster_and_three, some_words, cluster_and_some, alone, on_cluster, on_server, on_region, on_peer, on_queue, on_place, on_flight, send, merge, claim, transit, fail, keep};
 ghost use Rattle.script_text.specs.Words.{words_of};
 
 use crate::forms::{
     call_word, cluster_word, flight_word, number_word, peer_word, region_word, server_word,
     state_word,
 };
-use crate::head::{Alone, OnCluster, OnFlight, OnPeer, OnPlace, OnRegion, OnServer};
+use crate::head::{Alone, OnCluster, OnFlight, OnPeer, OnPlace, OnQueue, OnRegion, OnServer};
 use crate::makings::{
-    alone_command, cluster_command, flight_command, peer_command, place_command, region_command,
-    server_command,
+    alone_command, cluster_command, flight_command, peer_command, place_command, queue_command,
+    region_command, server_command,
 };
 use crate::words::{four_words, has_word, one_word, three_words, two_words};
 use crate::{Command, Rule};
@@ -96,6 +96,16 @@ pub fn on_peer(word: OnPeer, text: &[u8]) -> Result<Command, Rule>
     Ok(peer_command(word, cluster, peer))
 }
 
+#[tactic(auto, unfolding(crate::specs::Meanings::on_queue))]
+pub fn on_queue(word: OnQueue, text: &[u8]) -> Result<Command, Rule>
+    ensures { result ≡ on_queue word (words_of text.now) }
+{
+    let (cluster, peer, server) = cluster_and_two(text)?;
+    let peer = peer_word(peer)?;
+    let server = server_word(server)?;
+    Ok(queue_command(word, cluster, peer, server))
+}
+
 #[tactic(auto, unfolding(crate::specs::Meanings::on_place))]
 pub fn on_place(word: OnPlace, text: &[u8]) -> Result<Command, Rule>
     ensures { result ≡ on_place word (words_of text.now) }
@@ -113,20 +123,6 @@ pub fn on_flight(word: OnFlight, text: &[u8]) -> Result<Command, Rule>
     let flight = one_word(text)?;
     let flight = flight_word(flight)?;
     Ok(flight_command(word, flight))
-}
-
-#[tactic(auto, unfolding(crate::specs::Meanings::ship))]
-pub fn ship(text: &[u8]) -> Result<Command, Rule>
-    ensures { result ≡ ship (words_of text.now) }
-{
-    let (cluster, peer, server) = cluster_and_two(text)?;
-    let peer = peer_word(peer)?;
-    let server = server_word(server)?;
-    Ok(Command::Ship {
-        cluster,
-        peer,
-        server,
-    })
 }
 
 // Four words, of which the last may be left out.
