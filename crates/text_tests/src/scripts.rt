@@ -1,8 +1,4 @@
-ghost use Rattle.std.specs.Prelude.{◌≡◌, false, IfSome};
-ghost use Rattle.script_text.specs.Expansion.{asks_state};
-
-use rep_types::{Cause, Cluster, Event, Items, PeerId, Refusal, Reply, ServerId};
-use script_text::{Command, Input, ParseError, generate, parse};
+use script_text::{Input, ParseError, generate, parse};
 use std::alloc::Global;
 use std::test::Fail;
 
@@ -172,7 +168,7 @@ static PERFORMED: [&[u8]; 30] = [
 ];
 
 // Commands whose words are known, and that no program performs yet.
-static LATER: [&[u8]; 22] = [
+static LATER: [&[u8]; 27] = [
     b"split a 1 m",
     b"merge a 1 2",
     b"flush a 1",
@@ -182,6 +178,11 @@ static LATER: [&[u8]; 22] = [
     b"enable a 1",
     b"disable a 1",
     b"remove a 1",
+    b"makeserial a 1",
+    b"oldqueues a",
+    b"migratebegin a",
+    b"migrate a 1 1",
+    b"migrateend a",
     b"lose 1",
     b"claim a 1 2 1",
     b"mirror a 1",
@@ -271,65 +272,5 @@ fn the_generator_draws_its_rows(rt: HostRuntime) -> Result<(), Fail> {
         digest(alloc, 1, 1000)?,
         (34717, 13_562_033_947_440_226_292)
     );
-    Ok(())
-}
-
-fn replies_of(alloc: Global, first: Reply, second: Option<Reply>) -> Result<Items<Reply>, Fail> {
-    let mut replies = Items::new(alloc);
-    replies.push(first)?;
-    if let Some(second) = second {
-        replies.push(second)?;
-    }
-    Ok(replies)
-}
-
-fn sent() -> Reply {
-    Reply::Sent {
-        flight: 7,
-        entries: 1,
-        forms: 1,
-    }
-}
-
-fn ship() -> Option<Command>
-    ensures { IfSome result (λ ship. asks_state ship ≡ false) }
-{
-    Some(Command::Ship {
-        cluster: Cluster::A,
-        peer: PeerId::new(1)?,
-        server: ServerId::new(1)?,
-    })
-}
-
-#[test]
-fn a_shipment_goes_on_after_what_passes(rt: HostRuntime) -> Result<(), Fail> {
-    let alloc = rt.alloc();
-    let Some(ship) = ship() else {
-        return Ok(());
-    };
-    let none = Items::new(alloc);
-    let event = ship.next_event(alloc, none.as_slice())?;
-    assert!(rt; matches!(event, Some(Event::Send { most: 25, .. })));
-    let empty = replies_of(alloc, Reply::Refused(Refusal::Empty), None)?;
-    assert!(rt; ship.next_event(alloc, empty.as_slice())?.is_none());
-    let flown = replies_of(alloc, sent(), None)?;
-    let event = ship.next_event(alloc, flown.as_slice())?;
-    assert!(rt; matches!(event, Some(Event::Deliver { flight: 7 })));
-    let acks = Items::new(alloc);
-    let all = replies_of(alloc, sent(), Some(Reply::All { arrived: 1, acks }))?;
-    let event = ship.next_event(alloc, all.as_slice())?;
-    assert!(rt; matches!(event, Some(Event::Confirm { flight: 7 })));
-    let acks = Items::new(alloc);
-    let cause = Cause::Broken { log: 1 };
-    let stopped = replies_of(
-        alloc,
-        sent(),
-        Some(Reply::Stopped {
-            index: 0,
-            acks,
-            cause,
-        }),
-    )?;
-    assert!(rt; ship.next_event(alloc, stopped.as_slice())?.is_none());
     Ok(())
 }
