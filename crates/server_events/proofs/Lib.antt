@@ -3,3 +3,4 @@ pub mod Losing
 pub mod RegionsLost
 pub mod ServerAdded
 pub mod Untold
+pub mod Waiting

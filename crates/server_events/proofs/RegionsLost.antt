@@ -79,7 +79,6 @@ module _ (own : Cluster) (c : Contents) (core : ClusterCore) (side : Side) (s : 
   pub regions_lost : Stands own c (record core { map = all_lost s core.map }) (lost_side s side)
   regions_lost = record {
     own_is = stands.own_is;
-    paired = stands.paired;
     folder = stands.folder;
     regions = ap (all_lost s) stands.regions ∙ ap (λ (rs : List MapRegion). let m : Map = record (map_of side) { regions = rs } in m) (regions_are s side.regions);
     index = record {
@@ -91,5 +90,6 @@ module _ (own : Cluster) (c : Contents) (core : ClusterCore) (side : Side) (s : 
     queues = record { peers = stands.queues.peers; plain = stands.queues.plain; queues = stands.queues.queues; at = lines_kept side after core.lines refl (λ _ _ e. e) stands.queues.at };
     records = records_kept c c side after refl stands.records others;
     framed = stands.framed;
+    forms = stands.forms;
     link = stands.link;
   }

@@ -1,17 +1,17 @@
 -- A new server and its first log.
-use Rattle.std.proofs.Common.{ℕ, ◌<◌, ◌≤◌, ◌^◌, ◌≡◌, ◌==◌, ◌⊎◌, ◌&&◌, inl, inr, cond, not, Bool, true, false, List, [], ◌∷◌, ◌++◌, Result, Ok, map, find, filter, drop, position, Option, Some, None, is_some, is_none, refl, ap, sym, ◌∙◌, subst, arith, eq-eqb, ne_eqb}
+use Rattle.std.proofs.Common.{ℕ, ◌<◌, ◌≤◌, ◌^◌, ◌≡◌, ◌==◌, ◌⊎◌, ◌&&◌, inl, inr, cond, not, Bool, true, false, List, [], ◌∷◌, ◌++◌, Result, Ok, map, find, filter, drop, position, Option, Some, None, refl, ap, sym, ◌∙◌, subst, arith, eq-eqb, ne_eqb}
 use Rattle.std.specs.List.{AllByRecursion}
-use Rattle.std.specs.Prelude.{IfSome, if◌then◌else◌}
+use Rattle.std.specs.Prelude.{IfSome}
 use Rattle.std.proofs.lemmas.Bool.{cond-true, cond-false, cond_both, cases_eq, and_left}
 use Rattle.std.proofs.lemmas.List.{map-append}
 use Rattle.std.proofs.lemmas.Option.{same_Some, none-some}
 use Rattle.rep_types.specs.declared.ids.Cluster.{Cluster}
 use Rattle.rep_types.specs.declared.ids.Cluster.TheVariants.{A, B, C}
+use Rattle.rep_types.specs.declared.state.QueueForm.{QueueForm}
+use Rattle.rep_types.specs.declared.state.QueueForms.{QueueForms}
 use Rattle.rep_types.specs.declared.state.Call.{Call}
 use Rattle.rep_types.specs.declared.state.Call.TheVariants as call
-use Rattle.rep_types.specs.declared.refusal.Refusal.{Refusal}
 use Rattle.rep_types.specs.declared.refusal.Refusal.TheVariants as refusal
-use Rattle.rep_types.specs.declared.reply.Reply.{Reply}
 use Rattle.rep_types.specs.declared.reply.Reply.TheVariants as reply
 use Rattle.rep_vault.specs.Contents.{File, empty_file, Contents, changed, with_records}
 use Rattle.rep_vault.proofs.Frames.{files_records, stands_records, records_records}
@@ -19,14 +19,17 @@ use Rattle.wal_roll.specs.Log.{Log, LogValue, wal, log_name, writer_of, IsLog, I
 use Rattle.wal_roll.specs.Steps.{MayCreate, OnlyFile, new_log}
 use Rattle.region_server.specs.Host.{HostValue}
 use Rattle.rep_model.specs.Keyed.{given}
-use Rattle.rep_model.specs.State.{of, with, other, is_server, is_peer, server_of, unlinked}
+use Rattle.rep_model.specs.State.{Route, of, with, is_server, is_peer, server_of, unlinked}
+use Rattle.rep_model.specs.Words.{is_in}
 use Rattle.rep_model.specs.Commits.{log_commits, pending_count, stands_in}
 use Rattle.rep_model.specs.Queues.{is_queued, queue}
 use Rattle.rep_model.specs.Peers.{is_removed, is_dual_in}
-use Rattle.rep_model.specs.Row.{Row, answers, first, unless, or_fault, fault_among, site}
-use Rattle.rep_model.specs.Copies.{make_copy}
-use Rattle.rep_model.specs.LogEvents.{is_dual, is_fenced, copy_sites, left_copy, new_server, new_queue, server_queues, server_added, server_row}
-use Rattle.rep_model.specs.declared.faults.Site.{Site}
+use Rattle.rep_model.specs.Row.{answers, fault_among, site}
+use Rattle.rep_model.specs.Plan.{told}
+use Rattle.rep_model.specs.Path.{refusal_of}
+use Rattle.rep_model.specs.PlanRows.{server_plan}
+use Rattle.rep_model.specs.FormEvents.{made_form}
+use Rattle.rep_model.specs.LogEvents.{is_dual, new_server, new_queue, server_queues}
 use Rattle.rep_model.specs.declared.machine.Machine.{Machine}
 use Rattle.rep_model.specs.declared.machine.Side.{Side}
 use Rattle.rep_model.specs.declared.machine.Link.{Link}
@@ -50,11 +53,11 @@ use Rattle.cluster_core.specs.Logs.{IsFresh, log_of}
 use Rattle.cluster_core.specs.Memory.{trace_of, server_at, pending_at, shelf_of, kept_after, peer_line, queue_of_line, IsAt}
 use Rattle.cluster_core.specs.Stands.{number_of, is_station, ServerTold, StationStands, StationAt, Stands}
 use Rattle.cluster_core.specs.Does.{Does, Reached}
-use Rattle.cluster_core.proofs.Answering.{faulted_one}
+use Rattle.cluster_core.proofs.Answering.{faulted_one, plan_refused}
 use Rattle.cluster_core.proofs.Naming.{named_apart}
 use Rattle.cluster_core.proofs.Frames.{SameLogs, station_same}
 use Rattle.cluster_core.proofs.RecordsPut.{Owes, Put, IsAside, change_of, records_put, records_kept}
-use Rattle.cluster_core.proofs.Simple.{simple_refused, simple_faulted, simple_done, does_with, does_nothing}
+use Rattle.cluster_core.proofs.Simple.{does_with, does_nothing}
 use Rattle.cluster_core.proofs.Staying.{station_beside, number_is, lines_kept}
 use Rattle.server_events.specs.Effects.{new_line, server_lines, new_shelf, new_station, with_server}
 
@@ -100,7 +103,6 @@ module _ (own : Cluster) (c c' : Contents) (core : ClusterCore) (side : Side) (s
   pub file_made : (w : LogValue) → OnlyFile wal (log_name s 1) c c' → IsWriter c' w (new_log s 1) → Stands own c' core side
   file_made w frame writer = record {
     own_is = stands.own_is;
-    paired = stands.paired;
     folder = ap (λ (f : List ℕ → Bool). f wal) frame.stands ∙ stands.folder;
     regions = stands.regions;
     index = stands.index;
@@ -112,6 +114,7 @@ module _ (own : Cluster) (c c' : Contents) (core : ClusterCore) (side : Side) (s
     queues = stands.queues;
     records = records_kept c c' side side frame.records stands.records (λ k _ o h. h);
     framed = stands.framed;
+    forms = stands.forms;
     link = stands.link;
   }
     where
@@ -167,28 +170,28 @@ module _ (s : ℕ) (servers : List Server) where
   traces_beside commits [] = refl
   traces_beside commits (h ∷ hs) = λ i. record (trace_of commits servers h) { pending = sym (pending_beside h.region.number (server_at h.place)) i } ∷ traces_beside commits hs i
 
-queues_of_lines : (s : ℕ) (ps : List Peer) → map queue_of_line (server_lines s (map peer_line ps)) ≡ server_queues s ps
-queues_of_lines s [] = refl
-queues_of_lines s (p ∷ ps) = by (is_removed p.standing) (queues_of_lines s ps)
+queues_of_lines : (f : QueueForms) (s : ℕ) (ps : List Peer) → map queue_of_line (server_lines (made_form f) s (map peer_line ps)) ≡ server_queues f s ps
+queues_of_lines f s [] = refl
+queues_of_lines f s (p ∷ ps) = by (is_removed p.standing) (queues_of_lines f s ps)
   where
-    by : (b : Bool) → map queue_of_line (server_lines s (map peer_line ps)) ≡ server_queues s ps
-        → map queue_of_line (cond b (server_lines s (map peer_line ps)) (new_line p.number s 0 ∷ server_lines s (map peer_line ps))) ≡ cond b (server_queues s ps) (new_queue p.number s ∷ server_queues s ps)
+    by : (b : Bool) → map queue_of_line (server_lines (made_form f) s (map peer_line ps)) ≡ server_queues f s ps
+        → map queue_of_line (cond b (server_lines (made_form f) s (map peer_line ps)) (new_line (made_form f) p.number s ∷ server_lines (made_form f) s (map peer_line ps))) ≡ cond b (server_queues f s ps) (new_queue f p.number s ∷ server_queues f s ps)
     by true e = e
-    by false e = ap (λ qs. new_queue p.number s ∷ qs) e
+    by false e = ap (λ qs. new_queue f p.number s ∷ qs) e
 
 -- each new queue is of a known peer, and empty
-lines_at : (side : Side) (s : ℕ) (ps : List Peer) → AllByRecursion (λ (p : Peer). find (is_peer p.number) side.peers ≡ Some p) ps → ((p : Peer) → queue p s side.commits ≡ []) → server_commits s side.commits ≡ []
-    → AllByRecursion (IsAt side) (server_lines s (map peer_line ps))
-lines_at side s [] known none empty = tt
-lines_at side s (p ∷ ps) known none empty =
-    cond_both (is_removed p.standing) (server_lines s (map peer_line ps)) (new_line p.number s 0 ∷ server_lines s (map peer_line ps)) (AllByRecursion (IsAt side))
-    (λ _. lines_at side s ps known.1 none empty)
-    (λ _. (record { peer = p; known = known.0; within = omega arith; queued = none p ∙ sym empty }, lines_at side s ps known.1 none empty))
+lines_at : (side : Side) (form : QueueForm) (s : ℕ) (ps : List Peer) → AllByRecursion (λ (p : Peer). find (is_peer p.number) side.peers ≡ Some p) ps → ((p : Peer) → queue p s side.commits ≡ []) → server_commits s side.commits ≡ []
+    → AllByRecursion (IsAt side) (server_lines form s (map peer_line ps))
+lines_at side form s [] known none empty = tt
+lines_at side form s (p ∷ ps) known none empty =
+    cond_both (is_removed p.standing) (server_lines form s (map peer_line ps)) (new_line form p.number s ∷ server_lines form s (map peer_line ps)) (AllByRecursion (IsAt side))
+    (λ _. lines_at side form s ps known.1 none empty)
+    (λ _. (record { peer = p; known = known.0; within = omega arith; queued = none p ∙ sym empty }, lines_at side form s ps known.1 none empty))
 
 -- ---- memory and the store with the server
 
 abbrev pub side_after : ℕ → Side → Side
-side_after s side = record side { servers = side.servers ++ new_server s false ∷ []; queues = side.queues ++ server_queues s side.peers }
+side_after s side = record side { servers = side.servers ++ new_server s false ∷ []; queues = side.queues ++ server_queues side.forms s side.peers }
 
 abbrev new_host : LogValue → HostValue
 new_host w = record { log = w; pending = []; tickets = [] }
@@ -271,7 +274,6 @@ module _ (own : Cluster) (c mid c' : Contents) (core : ClusterCore) (side : Side
   pub server_stands : Stands own c' (with_server s (new_host w) core) after
   server_stands = record {
     own_is = stands.own_is;
-    paired = stands.paired;
     folder = ap (λ (d : Contents). d.stands wal) put ∙ (ap (λ (f : List ℕ → Bool). f wal) (stands_records _ mid) ∙ (ap (λ (f : List ℕ → Bool). f wal) frame.stands ∙ stands.folder));
     regions = stands.regions;
     index = record {
@@ -285,98 +287,85 @@ module _ (own : Cluster) (c mid c' : Contents) (core : ClusterCore) (side : Side
     queues = record {
       peers = stands.queues.peers;
       plain = stands.queues.plain;
-      queues = map-append queue_of_line core.lines (server_lines s core.peers)
-          ∙ ((λ i. stands.queues.queues i ++ map queue_of_line (server_lines s (stands.queues.peers i))) ∙ ap (λ (qs : List Queue). side.queues ++ qs) (queues_of_lines s side.peers));
-      at = All_append (IsAt after) core.lines (server_lines s core.peers) (lines_kept side after core.lines refl (λ _ _ h. h) stands.queues.at)
-          (subst (λ (ps : List PeerLine). AllByRecursion (IsAt after) (server_lines s ps)) (sym stands.queues.peers) (lines_at after s side.peers known (no_queue s side.commits none) (no_commits s side.commits none)));
+      queues = map-append queue_of_line core.lines (server_lines (made_form core.forms) s core.peers)
+          ∙ ((λ i. stands.queues.queues i ++ map queue_of_line (server_lines (made_form (stands.forms i)) s (stands.queues.peers i))) ∙ ap (λ (qs : List Queue). side.queues ++ qs) (queues_of_lines side.forms s side.peers));
+      at = All_append (IsAt after) core.lines (server_lines (made_form core.forms) s core.peers) (lines_kept side after core.lines refl (λ _ _ h. h) stands.queues.at)
+          (subst (λ (ps : List PeerLine). AllByRecursion (IsAt after) (server_lines (made_form core.forms) s ps)) (sym stands.queues.peers) (lines_at after (made_form core.forms) s side.peers known (no_queue s side.commits none) (no_commits s side.commits none)));
     };
     records = records_put c c' side after puts (ap (λ (d : Contents). d.records) put ∙ (records_records _ mid ∙ ap (λ (f : List ℕ → Option (List ℕ)). changed (map change_of puts) f) frame.records)) stands.records
         (record { small = small; owed = subst (λ (p : Option Server). ServerTold (Some (log_text 1 false)) p) (sym found_server) (inl refl) }, tt) others;
     framed = stands.framed;
+    forms = stands.forms;
     link = stands.link;
   }
 
 -- ---- the row
 
-abbrev refusals : Cluster → ℕ → Machine → List (Bool × Refusal)
-refusals own s m = (is_some (server_of own s m), refusal.Exists) ∷ []
-
-abbrev effect : Cluster → ℕ → Reply → Machine → Row
-effect own s said m =
-    unless (first ((is_fenced own m, refusal.Fenced) ∷ [])) m (
-    or_fault (fault_among (copy_sites own m (site own call.Put ∷ [])) said) said (λ failed. left_copy failed.call own s 1 m) (
-    answers reply.Done (make_copy (is_dual own m) own s 1 (server_added own s m))))
-
--- the same by whether new logs are dual
-abbrev effect_by : Bool → Cluster → ℕ → Reply → Machine → Row
-effect_by dual own s said m =
-    unless (first ((dual && is_none (of (other own) m).link.folder, refusal.Fenced) ∷ [])) m (
-    or_fault (fault_among (if dual then site (other own) call.Create ∷ site own call.Put ∷ [] else site own call.Put ∷ []) said) said (λ failed. left_copy failed.call own s 1 m) (
-    answers reply.Done (make_copy dual own s 1 (
-    with own (record (of own m) { servers = (of own m).servers ++ new_server s dual ∷ []; queues = (of own m).queues ++ server_queues s (of own m).peers }) m))))
-
 not_dual : (own : Cluster) (m : Machine) → (of own m).link ≡ unlinked → is_dual own m ≡ false
 not_dual own m e = ap (λ (l : Link). is_dual_in l.state l.phase) e
 
 -- a failed put isn't a failed create
-put_is_other : (own : Cluster) (n : ℕ) → fault_among (site own call.Create ∷ []) (reply.StoreFault own call.Put n) ≡ None
-put_is_other A n = refl
-put_is_other B n = refl
-put_is_other C n = refl
+put_is_later : (own : Cluster) (n : ℕ) → fault_among (site own call.Create ∷ []) (reply.StoreFault own call.Put n) ≡ None
+put_is_later A n = refl
+put_is_later B n = refl
+put_is_later C n = refl
 
-module _ (own : Cluster) (c : Contents) (core : ClusterCore) (s : ℕ) (m : Machine) (stands : Stands own c core (of own m)) where
-  pub server_refused : (v : Server) → server_of own s m ≡ Some v → Does own (server_row own s (reply.Refused refusal.Exists) m) m c core (reply.Refused refusal.Exists)
-  unfolding server_row
-  server_refused v e =
-      does_nothing own (server_row own s (reply.Refused refusal.Exists) m) m c core (reply.Refused refusal.Exists)
-      (simple_refused (refusals own s m) (site own call.Create ∷ []) (reply.Refused refusal.Exists) m (effect own s (reply.Refused refusal.Exists) m) refusal.Exists (ap (λ (o : Option Server). first ((is_some o, refusal.Exists) ∷ [])) e)) stands
+module _ (way : Route) (own : Cluster) (s : ℕ) (m : Machine) where
+  row_refused : (v : Server) → server_of own s m ≡ Some v → refusal_of (server_plan way own s m) ≡ Some refusal.Exists
+  unfolding server_plan
+  row_refused v there = rw there refl
 
   module _ (none : server_of own s m ≡ None) where
-    let_in : first (refusals own s m) ≡ None
-    let_in = ap (λ (o : Option Server). first ((is_some o, refusal.Exists) ∷ [])) none
+    row_uncreated : (n : ℕ) → fault_among (site own call.Create ∷ []) (reply.StoreFault own call.Create n) ≡ Some (site own call.Create) → told (server_plan way own s m) (reply.StoreFault own call.Create n) m ≡ answers (reply.StoreFault own call.Create n) m
+    unfolding server_plan
+    row_uncreated n first = rw (none, first) refl
 
-    by_link : (said : Reply) → effect own s said m ≡ effect_by false own s said m
-    by_link said = ap (λ (d : Bool). effect_by d own s said m) (not_dual own m stands.link)
+    row_unput : (n : ℕ) → is_dual own m ≡ false → fault_among (site own call.Create ∷ []) (reply.StoreFault own call.Put n) ≡ None → fault_among (site own call.Put ∷ []) (reply.StoreFault own call.Put n) ≡ Some (site own call.Put)
+        → told (server_plan way own s m) (reply.StoreFault own call.Put n) m ≡ answers (reply.StoreFault own call.Put n) m
+    unfolding server_plan
+    row_unput n single later last = rw (none, later, single, last) refl
 
-    pub server_uncreated : (k : Call) (n : ℕ) (c' : Contents) → k ≡ call.Create → c' ≡ c → Does own (server_row own s (reply.StoreFault own k n) m) m c' core (reply.StoreFault own k n)
-    unfolding server_row
+    row_done : is_dual own m ≡ false → told (server_plan way own s m) reply.Done m ≡ answers reply.Done (with own (side_after s (of own m)) m)
+    unfolding server_plan
+    row_done single = rw (none, single) refl
+
+module _ (way : Route) (own : Cluster) (c : Contents) (core : ClusterCore) (s : ℕ) (m : Machine) (stands : Stands own c core (of own m)) where
+  pub server_refused : (v : Server) → server_of own s m ≡ Some v → Does own (told (server_plan way own s m) (reply.Refused refusal.Exists) m) m c core (reply.Refused refusal.Exists)
+  server_refused v e = plan_refused own (server_plan way own s m) m c core refusal.Exists (row_refused way own s m v e) stands
+
+  module _ (none : server_of own s m ≡ None) where
+    pub server_uncreated : (k : Call) (n : ℕ) (c' : Contents) → k ≡ call.Create → c' ≡ c → Does own (told (server_plan way own s m) (reply.StoreFault own k n) m) m c' core (reply.StoreFault own k n)
     server_uncreated k n c' is same =
-        subst (λ (j : Call). Does own (server_row own s (reply.StoreFault own j n) m) m c' core (reply.StoreFault own j n)) (sym is) (
-        does_nothing own (server_row own s (reply.StoreFault own call.Create n) m) m c' core (reply.StoreFault own call.Create n)
-        (simple_faulted (refusals own s m) own call.Create n m (effect own s (reply.StoreFault own call.Create n) m) let_in) (subst (λ (d : Contents). Stands own d core (of own m)) (sym same) stands))
+        subst (λ (j : Call). Does own (told (server_plan way own s m) (reply.StoreFault own j n) m) m c' core (reply.StoreFault own j n)) (sym is)
+        (does_nothing own (told (server_plan way own s m) (reply.StoreFault own call.Create n) m) m c' core (reply.StoreFault own call.Create n)
+        (row_uncreated way own s m none n (faulted_one own call.Create n)) (subst (λ (d : Contents). Stands own d core (of own m)) (sym same) stands))
 
-    pub server_unput : (n : ℕ) (c' : Contents) → Stands own c' core (of own m) → Does own (server_row own s (reply.StoreFault own call.Put n) m) m c' core (reply.StoreFault own call.Put n)
-    unfolding server_row
+    pub server_unput : (n : ℕ) (c' : Contents) → Stands own c' core (of own m) → Does own (told (server_plan way own s m) (reply.StoreFault own call.Put n) m) m c' core (reply.StoreFault own call.Put n)
     server_unput n c' stands' =
-        does_nothing own (server_row own s (reply.StoreFault own call.Put n) m) m c' core (reply.StoreFault own call.Put n)
-        (simple_done (refusals own s m) (site own call.Create ∷ []) (reply.StoreFault own call.Put n) m (effect own s (reply.StoreFault own call.Put n) m) let_in (put_is_other own n)
-        ∙ (by_link (reply.StoreFault own call.Put n)
-        ∙ (ap (λ (o : Option Site). or_fault o (reply.StoreFault own call.Put n) (λ failed. left_copy failed.call own s 1 m) (answers reply.Done (with own (side_after s (of own m)) m))) (faulted_one own call.Put n)
-        ∙ ap (λ (d : Bool). answers (reply.StoreFault own call.Put n) (make_copy d own s 1 m)) (not_dual own m stands.link)))) stands'
+        does_nothing own (told (server_plan way own s m) (reply.StoreFault own call.Put n) m) m c' core (reply.StoreFault own call.Put n)
+        (row_unput way own s m none n (not_dual own m stands.link) (put_is_later own n) (faulted_one own call.Put n)) stands'
 
     -- no commit is of a server that isn't there
-    unused : Reached m → AllByRecursion (λ (x : Commit). (x.server == s) ≡ false) (of own m).commits
-    unused (journal, legal, is) = All_weaker (λ x i. other x i) (of own m).commits (all_in (of own m).commits)
+    unused : is_in way own ≡ true → Reached way m → AllByRecursion (λ (x : Commit). (x.server == s) ≡ false) (of own m).commits
+    unused pair reached = All_weaker (λ x i. other x i) (of own m).commits (all_in (of own m).commits)
       where
         other : (x : Commit) → In x (of own m).commits → (x.server == s) ≡ false
         other x i =
             let at : (v : Server) × (server_of own x.server m ≡ Some v) × (x.log ≤ v.log) × (1 ≤ x.log) =
-            subst (λ (k : Machine). In x (of own k).commits → (v : Server) × (server_of own x.server k ≡ Some v) × (x.log ≤ v.log) × (1 ≤ x.log)) is (commits_are_in_logs journal legal own stands.paired x) i in
+            subst (λ (k : Machine). In x (of own k).commits → (v : Server) × (server_of own x.server k ≡ Some v) × (x.log ≤ v.log) × (1 ≤ x.log)) reached.leads (commits_are_in_logs way reached.steps reached.legal own pair x) i in
             ne_eqb x.server s (λ e. none-some at.0 (sym none ∙ (ap (λ k. server_of own k m) (sym e) ∙ at.1)))
 
-    known_peers : Reached m → AllByRecursion (λ (p : Peer). find (is_peer p.number) (of own m).peers ≡ Some p) (of own m).peers
-    known_peers (journal, legal, is) =
-        All_weaker (λ p i. subst (λ (k : Machine). In p (of own k).peers → find (is_peer p.number) (of own k).peers ≡ Some p) is (peer_is_found journal legal own stands.paired p) i) (of own m).peers (all_in (of own m).peers)
+    known_peers : is_in way own ≡ true → Reached way m → AllByRecursion (λ (p : Peer). find (is_peer p.number) (of own m).peers ≡ Some p) (of own m).peers
+    known_peers pair reached =
+        All_weaker (λ p i. subst (λ (k : Machine). In p (of own k).peers → find (is_peer p.number) (of own k).peers ≡ Some p) reached.leads (peer_is_found way reached.steps reached.legal own pair p) i) (of own m).peers (all_in (of own m).peers)
 
-    pub server_done : Reached m → s < 2 ^ 32 → None ≡ position (is_station s) core.stations → (mid c' : Contents) (w : LogValue) (core' : ClusterCore)
+    pub server_done : is_in way own ≡ true → Reached way m → s < 2 ^ 32 → None ≡ position (is_station s) core.stations → (mid c' : Contents) (w : LogValue) (core' : ClusterCore)
         → OnlyFile wal (log_name s 1) c mid → IsWriter mid w (new_log s 1) → c' ≡ with_records (setting (OfServer s) (log_text 1 false) ∷ []) mid → core' ≡ with_server s (new_host w) core
-        → Does own (server_row own s reply.Done m) m c' core' reply.Done
-    unfolding server_row
-    server_done reached small absent mid c' w core' frame writer put made =
-        does_with own (server_row own s reply.Done m) m (side_after s (of own m)) c' core' reply.Done stands.paired
-        (simple_done (refusals own s m) (site own call.Create ∷ []) reply.Done m (effect own s reply.Done m) let_in refl ∙ by_link reply.Done)
+        → Does own (told (server_plan way own s m) reply.Done m) m c' core' reply.Done
+    server_done pair reached small absent mid c' w core' frame writer put made =
+        does_with own (told (server_plan way own s m) reply.Done m) m (side_after s (of own m)) c' core' reply.Done (row_done way own s m none (not_dual own m stands.link))
         (subst (λ (k : ClusterCore). Stands own c' k (side_after s (of own m))) (sym made)
-        (server_stands own c mid c' core (of own m) s small stands (find-absent (is_station s) core.stations (sym absent)) none w frame writer put (unused reached) (known_peers reached)))
+        (server_stands own c mid c' core (of own m) s small stands (find-absent (is_station s) core.stations (sym absent)) none w frame writer put (unused pair reached) (known_peers pair reached)))
 
     pub may_create_log : None ≡ position (is_station s) core.stations → MayCreate c s 1
     may_create_log absent = record { stands = stands.folder; free = fresh_or_empty (c.files wal (log_name s 1)) (fresh own c core (of own m) s stands (find-absent (is_station s) core.stations (sym absent)) none 1) }

@@ -1,27 +1,18 @@
--- Why a server doesn't die, and what its death leaves of memory.
-use Rattle.std.specs.Prelude.{ℕ, ◌+◌, ◌≡◌, not, false, List, [], ◌∷◌, Bool, Option, Some, find, is_none, map, slice_get}
-use Rattle.rep_types.specs.declared.refusal.Refusal.{Refusal}
-use Rattle.rep_types.specs.declared.refusal.Refusal.TheVariants as refusal
+-- Which server dies, and what its death leaves of memory.
+use Rattle.std.specs.Prelude.{ℕ, ◌+◌, ◌≡◌, true, false, List, [], Some, map, slice_get}
+use Rattle.rep_vault.specs.Contents.{Contents}
 use Rattle.region_meta.specs.Regions.{Map}
 use Rattle.region_meta.specs.Changes.{moved}
 use Rattle.region_meta.specs.declared.region.Region.{Region}
-use Rattle.rep_model.specs.Keyed.{if_some}
-use Rattle.rep_model.specs.State.{is_server}
-use Rattle.rep_model.specs.Row.{first}
 use Rattle.rep_model.specs.Places.{after_death}
 use Rattle.rep_model.specs.declared.machine.Side.{Side}
-use Rattle.rep_model.specs.declared.machine.Server.{Server}
 use Rattle.cluster_core.specs.declared.parts.Station.{Station}
+use Rattle.cluster_core.specs.Lookups.{HasStation}
 
--- the row's
-abbrev pub crash_refusals : ℕ → Option Server → List (Bool × Refusal)
-crash_refusals s o =
-    (is_none o, refusal.NoServer)
-    ∷ (not (if_some o (λ srv. srv.live)), refusal.Dead s)
-    ∷ []
-
-abbrev pub crash_refusal : ℕ → Side → Option Refusal
-crash_refusal s side = first (crash_refusals s (find (is_server s) side.servers))
+-- a server that lives
+pub record MayDie (c : Contents) (side : Side) (stations : List Station) (s at : ℕ) : Type 0 where
+  pub here : HasStation c side stations s at
+  pub live : here.server.live ≡ true
 
 -- the station of a dead server, whose tickets are given up
 abbrev pub dead_station : Station → Station

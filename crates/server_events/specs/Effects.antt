@@ -1,6 +1,8 @@
 -- What events of servers and peers leave of memory.
 use Rattle.std.specs.Prelude.{ℕ, true, false, List, [], ◌∷◌, ◌++◌, None, if◌then◌else◌}
 use Rattle.region_server.specs.Host.{HostValue}
+use Rattle.rep_types.specs.declared.state.QueueForm.{QueueForm}
+use Rattle.rep_model.specs.FormEvents.{made_form}
 use Rattle.rep_model.specs.Peers.{is_removed}
 use Rattle.cluster_core.specs.declared.parts.Line.{Line}
 use Rattle.cluster_core.specs.declared.parts.PeerLine.{PeerLine}
@@ -8,14 +10,14 @@ use Rattle.cluster_core.specs.declared.parts.Shelf.{Shelf}
 use Rattle.cluster_core.specs.declared.parts.Station.{Station}
 use Rattle.cluster_core.specs.declared.parts.ClusterCore.{ClusterCore}
 
--- a new queue, behind so many commits of its server
-abbrev pub new_line : ℕ → ℕ → ℕ → Line
-new_line p s at = record { peer = p; server = s; owner = s; flight = None; at = at }
+-- a queue of a new server, whose record has this form
+abbrev pub new_line : QueueForm → ℕ → ℕ → Line
+new_line form p s = record { peer = p; server = s; owner = s; form = form; flight = None; at = 0 }
 
--- a queue of a new server for each peer that isn't removed
-abbrev pub server_lines : ℕ → List PeerLine → List Line
-server_lines s [] = []
-server_lines s (p ∷ ps) = if is_removed p.standing then server_lines s ps else new_line p.number s 0 ∷ server_lines s ps
+-- one for each peer that isn't removed
+abbrev pub server_lines : QueueForm → ℕ → List PeerLine → List Line
+server_lines form s [] = []
+server_lines form s (p ∷ ps) = if is_removed p.standing then server_lines form s ps else new_line form p.number s ∷ server_lines form s ps
 
 abbrev pub new_shelf : ℕ → Shelf
 new_shelf s = record { server = s; kept = [] }
@@ -28,5 +30,5 @@ abbrev pub with_server : ℕ → HostValue → ClusterCore → ClusterCore
 with_server s h core = record core {
   index = record core.index { shelves = core.index.shelves ++ new_shelf s ∷ [] };
   stations = core.stations ++ new_station h ∷ [];
-  lines = core.lines ++ server_lines s core.peers;
+  lines = core.lines ++ server_lines (made_form core.forms) s core.peers;
 }

@@ -1,17 +1,19 @@
 // A server dies.
-ghost use Rattle.std.specs.Prelude.{◌≡◌, ◌<◌, None, Some, true, IfOk, MatchResult, length, slice_get, slice_set};
+ghost use Rattle.std.specs.Prelude.{◌≡◌, ◌<◌, Some, true, IfOk, MatchResult, length, slice_get, slice_set};
 ghost use Rattle.rep_types.specs.declared.event.Event.TheVariants as event;
 ghost use Rattle.rep_vault.specs.Contents.{Contents};
 ghost use Rattle.rep_model.specs.Calm.{is_calm};
 ghost use Rattle.rep_model.specs.Places.{after_death};
-ghost use Rattle.rep_model.specs.State.{of};
+ghost use Rattle.rep_model.specs.State.{Route, of};
+ghost use Rattle.rep_model.specs.Words.{is_in};
+ghost use Rattle.rep_model.specs.Path.{refusal_of};
+ghost use Rattle.rep_model.specs.MoreRows.{crash_plan};
 ghost use Rattle.rep_model.specs.declared.machine.Machine.{Machine};
-ghost use Rattle.rep_model.specs.declared.machine.Side.{Side};
 ghost use Rattle.cluster_core.specs.declared.parts.Station.{Station};
-ghost use Rattle.cluster_core.specs.Lookups.{ServersStand, HasStation};
+ghost use Rattle.cluster_core.specs.Lookups.{ServersStand};
 ghost use Rattle.cluster_core.specs.Stands.{Stands};
 ghost use Rattle.cluster_core.specs.Does.{Reached, Answers};
-ghost use Rattle.server_events.specs.Crashes.{crash_refusal, dead_station, all_lost, AreNumbered};
+ghost use Rattle.server_events.specs.Crashes.{MayDie, dead_station, all_lost, AreNumbered};
 
 use cluster_core::{ClusterCore, CoreError, Station, station_at};
 use region_meta::RegionMap;
@@ -27,8 +29,8 @@ fn lives_at(stations: &Items<Station>, at: usize) -> bool
 // The place of a live server's station, or why the server doesn't die.
 fn live_place(core: &ClusterCore, server: ServerId) -> Result<usize, Refusal>
     ensures within { IfOk result (λ at. at < length core.now.stations) }
-    ensures state { (c : Contents) (side : Side) → ServersStand c side core.now.stations
-        → MatchResult result (λ at. (crash_refusal server side ≡ None) × HasStation c side core.now.stations server at) (λ why. crash_refusal server side ≡ Some why) }
+    ensures state { (c : Contents) (m : Machine) → ServersStand c (of core.now.own m) core.now.stations
+        → MatchResult result (λ at. MayDie c (of core.now.own m) core.now.stations server at) (λ why. refusal_of (crash_plan core.now.own server m) ≡ Some why) }
 {
     let Some(at) = station_at(&core.stations, server) else {
         return Err(Refusal::NoServer);
@@ -77,8 +79,8 @@ fn lose_regions(map: &mut RegionMap, server: ServerId)
 /// A live server dies. What is pending at it stays so until its log is sealed; the tickets of puts among that are
 /// doubtful, and its regions are Lost. No store is called: the regions' records say at which server they are, which stays.
 pub fn crash(core: &mut ClusterCore, server: ServerId) -> Result<Reply, CoreError>
-    ensures does { (c : Contents) (m : Machine) → Reached m → Stands core.old.own c core.old (of core.old.own m)
-        → Answers core.old.own (event.Crash core.old.own server) m c core.old c core.new result }
+    ensures does { (way : Route) (c : Contents) (m : Machine) → Reached way m → is_in way core.old.own ≡ true → Stands core.old.own c core.old (of core.old.own m)
+        → Answers way core.old.own (event.Crash core.old.own server) m c core.old c core.new result }
     ensures calm { IfOk result (λ reply. is_calm reply ≡ true) }
 {
     let at = match live_place(core, server) {

@@ -1,6 +1,7 @@
-ghost use Rattle.std.specs.Prelude.{◌≡◌, ◌<◌, ◌^◌, false, OnOk, IfOk};
+ghost use Rattle.std.specs.Prelude.{◌≡◌, ◌<◌, ◌^◌, true, false, OnOk, IfOk};
 ghost use Rattle.rep_types.specs.declared.event.Event.TheVariants as event;
-ghost use Rattle.rep_model.specs.State.{of};
+ghost use Rattle.rep_model.specs.State.{Route, of};
+ghost use Rattle.rep_model.specs.Words.{is_in};
 ghost use Rattle.rep_model.specs.declared.machine.Machine.{Machine};
 ghost use Rattle.cluster_core.specs.Texts.{OfServer, log_text};
 ghost use Rattle.cluster_core.specs.Changes.{setting};
@@ -10,7 +11,8 @@ ghost use Rattle.server_events.specs.Effects.{with_server};
 
 use crate::lines::add_lines;
 use cluster_core::{
-    ClusterCore, CoreError, Shelf, Station, Stored, put_records, server_change, station_at,
+    ClusterCore, CoreError, Shelf, Station, Stored, made_form, put_records, server_change,
+    station_at,
 };
 use region_server::Host;
 use rep_types::{Call, Items, Memory, Refusal, Reply, ServerId};
@@ -40,7 +42,8 @@ fn add(core: &mut ClusterCore, alloc: Global, server: ServerId, host: Host) -> R
         sealed: false,
         host,
     })?;
-    add_lines(&mut core.lines, server, &core.peers)
+    let form = made_form(core.forms);
+    add_lines(&mut core.lines, form, server, &core.peers)
 }
 
 /// Makes a server with its first log, and a queue of it for each peer that isn't removed. The log's file stays where the
@@ -52,8 +55,8 @@ pub fn server<V: Vault>(
     server: ServerId,
 ) -> Result<Reply, CoreError>
     requires { Standing core.old.own (V.contents own.old) core.old }
-    ensures does { (m : Machine) → Reached m → Stands core.old.own (V.contents own.old) core.old (of core.old.own m)
-        → Answers core.old.own (event.Server core.old.own server) m (V.contents own.old) core.old (V.contents own.new) core.new result }
+    ensures does { (way : Route) (m : Machine) → Reached way m → is_in way core.old.own ≡ true → Stands core.old.own (V.contents own.old) core.old (of core.old.own m)
+        → Answers way core.old.own (event.Server core.old.own server) m (V.contents own.old) core.old (V.contents own.new) core.new result }
     ensures counts { Counts (V.tally own.old) (V.tally own.new) }
     ensures told { IfOk result (λ reply. FaultTold core.old.own reply (V.tally own.old) (V.tally own.new)) }
 {
