@@ -1,6 +1,8 @@
 -- What events of peers leave of memory.
 use Rattle.std.specs.Prelude.{ℕ, ◌||◌, not, Bool, List, [], ◌∷◌, ◌++◌, length, find, None, if◌then◌else◌}
 use Rattle.rep_types.specs.declared.state.Kind.TheVariants as kind
+use Rattle.rep_types.specs.declared.state.QueueForm.{QueueForm}
+use Rattle.rep_model.specs.FormEvents.{made_form}
 use Rattle.rep_model.specs.Keyed.{if_some}
 use Rattle.rep_model.specs.declared.machine.Standing.TheVariants as standing
 use Rattle.cluster_core.specs.declared.parts.ClusterCore.{ClusterCore}
@@ -15,13 +17,14 @@ abbrev pub takes_queues : ℕ → List Station → Bool
 takes_queues s stations = if_some (find (is_station s) stations) (λ st. st.live || not st.sealed)
 
 -- a new queue, behind all commits of its server
-abbrev pub new_line : ℕ → Shelf → Line
-new_line p x = record { peer = p; server = x.server; owner = x.server; flight = None; at = length x.kept }
+abbrev pub new_line : QueueForm → ℕ → Shelf → Line
+new_line form p x = record { peer = p; server = x.server; owner = x.server; form = form; flight = None; at = length x.kept }
 
 -- a queue for each server that takes one, in the order of the shelves
-abbrev pub new_lines : ℕ → List Station → List Shelf → List Line
-new_lines p stations [] = []
-new_lines p stations (x ∷ xs) = if takes_queues x.server stations then new_line p x ∷ new_lines p stations xs else new_lines p stations xs
+abbrev pub new_lines : QueueForm → ℕ → List Station → List Shelf → List Line
+new_lines form p stations [] = []
+new_lines form p stations (x ∷ xs) =
+    if takes_queues x.server stations then new_line form p x ∷ new_lines form p stations xs else new_lines form p stations xs
 
 -- a peer that is enabled and keeps no order
 abbrev pub new_peer_line : ℕ → List (List ℕ) → PeerLine
@@ -31,5 +34,5 @@ new_peer_line p tables = record { number = p; kind = kind.Plain; tables = tables
 abbrev pub with_added : ℕ → List (List ℕ) → ClusterCore → ClusterCore
 with_added p tables core = record core {
   peers = core.peers ++ new_peer_line p tables ∷ [];
-  lines = core.lines ++ new_lines p core.stations core.index.shelves;
+  lines = core.lines ++ new_lines (made_form core.forms) p core.stations core.index.shelves;
 }

@@ -2,9 +2,9 @@
 ghost use Rattle.std.specs.Prelude.{◌≡◌, ◌++◌, OnOk};
 ghost use Rattle.peer_events.specs.Effects.{takes_queues, new_lines, with_added};
 
-use cluster_core::{ClusterCore, Line, PeerLine, Shelf, Station, find_station};
+use cluster_core::{ClusterCore, Line, PeerLine, Shelf, Station, find_station, made_form};
 use rep_model::Standing;
-use rep_types::{Items, Kind, Memory, Names, PeerId, ServerId};
+use rep_types::{Items, Kind, Memory, Names, PeerId, QueueForm, ServerId};
 
 // Whether the server lives or isn't sealed.
 #[tactic(auto, unfolding(rep_model::specs::Keyed::given))]
@@ -21,10 +21,11 @@ fn takes_queues(stations: &Items<Station>, server: ServerId) -> bool
 fn add_lines(
     lines: &mut Items<Line>,
     peer: PeerId,
+    form: QueueForm,
     shelves: &Items<Shelf>,
     stations: &Items<Station>,
 ) -> Result<(), Memory>
-    ensures { OnOk result (lines.new ≡ lines.old ++ new_lines peer stations.now shelves.now) }
+    ensures { OnOk result (lines.new ≡ lines.old ++ new_lines form peer stations.now shelves.now) }
 {
     for shelf in shelves.as_slice() {
         if takes_queues(stations, shelf.server) {
@@ -32,6 +33,7 @@ fn add_lines(
                 peer,
                 server: shelf.server,
                 owner: shelf.server,
+                form,
                 flight: None,
                 at: shelf.kept.len() as u64,
             })?;
@@ -50,5 +52,12 @@ pub fn add(core: &mut ClusterCore, peer: PeerId, tables: Names) -> Result<(), Me
         tables,
         standing: Standing::Enabled,
     })?;
-    add_lines(&mut core.lines, peer, &core.index.shelves, &core.stations)
+    let form = made_form(core.forms);
+    add_lines(
+        &mut core.lines,
+        peer,
+        form,
+        &core.index.shelves,
+        &core.stations,
+    )
 }

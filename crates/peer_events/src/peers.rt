@@ -1,12 +1,14 @@
-ghost use Rattle.std.specs.Prelude.{◌≡◌, IfOk};
+ghost use Rattle.std.specs.Prelude.{◌≡◌, map, true, IfOk};
 ghost use Rattle.rep_types.specs.declared.event.Event.TheVariants as event;
 ghost use Rattle.rep_types.specs.declared.state.Kind.TheVariants as kind;
-ghost use Rattle.rep_model.specs.State.{of, other};
+ghost use Rattle.rep_model.specs.MoreRows.{peer_plan};
+ghost use Rattle.rep_model.specs.Path.{refusal_of};
+ghost use Rattle.rep_model.specs.State.{Route, of, dest};
+ghost use Rattle.rep_model.specs.Words.{is_in};
 ghost use Rattle.rep_model.specs.declared.machine.Machine.{Machine};
-ghost use Rattle.cluster_core.specs.Memory.{map_of};
+ghost use Rattle.cluster_core.specs.Memory.{map_of, peer_line};
 ghost use Rattle.cluster_core.specs.Stands.{Stands};
 ghost use Rattle.cluster_core.specs.Does.{Standing, Reached, Answers, Counts, FaultTold};
-ghost use Rattle.peer_events.specs.Refusals.{peer_refusal};
 
 use crate::additions::add;
 use crate::records::peer_record;
@@ -19,7 +21,8 @@ use std::alloc::Global;
 
 // Why the peer isn't added.
 fn refusal(core: &ClusterCore, beside: &RegionMap, peer: PeerId, tables: &Names) -> Option<Refusal>
-    ensures { result ≡ peer_refusal peer tables.now core.now.peers core.now.map beside.now }
+    ensures { (way : Route) (m : Machine) → core.now.peers ≡ map peer_line (of core.now.own m).peers → core.now.map ≡ map_of (of core.now.own m) → beside.now ≡ map_of (of (dest way core.now.own) m)
+        → result ≡ refusal_of (peer_plan way core.now.own peer kind.Plain tables.now m) }
 {
     if find_peer(&core.peers, peer).is_some() {
         return Some(Refusal::Exists);
@@ -34,7 +37,7 @@ fn refusal(core: &ClusterCore, beside: &RegionMap, peer: PeerId, tables: &Names)
 }
 
 /// Adds a peer that is enabled and keeps no order, with a queue for each server that lives or isn't sealed. It starts behind
-/// the present commits. Its tables stand in both clusters: `beside` is the other one's map.
+/// the present commits. Its tables stand in both clusters: `beside` is the destination's map.
 pub fn peer<V: Vault>(
     core: &mut ClusterCore,
     alloc: Global,
@@ -44,8 +47,9 @@ pub fn peer<V: Vault>(
     tables: Names,
 ) -> Result<Reply, CoreError>
     requires { Standing core.old.own (V.contents own.old) core.old }
-    ensures does { (m : Machine) → Reached m → Stands core.old.own (V.contents own.old) core.old (of core.old.own m) → beside.now ≡ map_of (of (other core.old.own) m)
-        → Answers core.old.own (event.Peer core.old.own peer kind.Plain tables) m (V.contents own.old) core.old (V.contents own.new) core.new result }
+    ensures does { (way : Route) (m : Machine) → Reached way m → is_in way core.old.own ≡ true → Stands core.old.own (V.contents own.old) core.old (of core.old.own m)
+        → beside.now ≡ map_of (of (dest way core.old.own) m)
+        → Answers way core.old.own (event.Peer core.old.own peer kind.Plain tables) m (V.contents own.old) core.old (V.contents own.new) core.new result }
     ensures counts { Counts (V.tally own.old) (V.tally own.new) }
     ensures told { IfOk result (λ reply. FaultTold core.old.own reply (V.tally own.old) (V.tally own.new)) }
 {

@@ -1,9 +1,9 @@
-// Tables that a peer names, in both clusters.
+// Tables that a peer names, in its cluster and at the destination.
 ghost use Rattle.std.specs.Prelude.{◌≡◌};
 ghost use Rattle.std.specs.List.{list_any};
 ghost use Rattle.std.specs.Str.{bytes_eq};
 ghost use Rattle.rep_model.specs.Keyed.{if_some};
-ghost use Rattle.peer_events.specs.Refusals.{families_of, families_lack, lacks_table, table_lacks_family};
+ghost use Rattle.peer_events.specs.Tables.{families_of, families_lack, lacks_table, table_lacks_family};
 
 use region_meta::RegionMap;
 use rep_types::{Families, Name, Names};

@@ -67,7 +67,8 @@ torn_holds : (committed front back : List Entry) (kept : ℕ) (bytes : List ℕ)
 torn_holds committed front [] kept bytes a b one whole =
     let first : AllByRecursion HasFrame front = All_left HasFrame front [] b in (
       committed ++ front,
-      framed_hold (committed ++ front) (take kept []) bytes (All_append HasFrame committed front a first) (whole ∙ frames_more committed front (take kept [])) (cut_so (take kept []) [] (take-nil kept) nothing_is_cut),
+      framed_hold (committed ++ front) (take kept []) bytes (All_append HasFrame committed front a first) (whole ∙ frames_more committed front (take kept []))
+          (cut_so (take kept []) [] (take-nil kept) nothing_is_cut),
     )
 torn_holds committed front (e ∷ []) kept bytes a b one whole =
     let first : AllByRecursion HasFrame front = All_left HasFrame front (e ∷ []) b in
@@ -94,7 +95,8 @@ torn_holds committed front (e ∷ []) kept bytes a b one whole =
 torn_holds committed front (e ∷ f ∷ back) kept bytes a b one whole = absurd (omega (arith, one))
 
 -- what a live server's log has behind the frames of its commits
-tail_holds : (broken : Bool) (committed pending : List Entry) (rest bytes : List ℕ) → AllByRecursion HasFrame committed → AllByRecursion HasFrame pending → bytes ≡ frames committed ++ rest → Tail broken rest pending → HoldSome bytes
+tail_holds : (broken : Bool) (committed pending : List Entry) (rest bytes : List ℕ) → AllByRecursion HasFrame committed → AllByRecursion HasFrame pending → bytes ≡ frames committed ++ rest
+    → Tail broken rest pending → HoldSome bytes
 tail_holds false committed pending rest bytes a b whole tail = (
   committed ++ pending,
   framed_hold (committed ++ pending) [] bytes (All_append HasFrame committed pending a b)
@@ -118,11 +120,13 @@ log_framed s l commits a = All_mapped HasFrame entry_of (log_commits s l commits
 sealed_holds : (c : Contents) (s l : ℕ) (es : List Entry) → AllByRecursion HasFrame es → IsSealedLog (c.files wal (log_name s l)) es → LogHoldsSome c s l
 sealed_holds c s l es framed k = (es, record { file = k.file; there = k.there; holds = framed_hold es k.part k.file.bytes framed k.bytes (tail_is_cut k.part k.tail) })
 
-current_holds : (c : Contents) (commits : List Commit) (h : HostValue) (srv : Server) (sealed : Bool) → AreFramed commits → AllByRecursion HasFrame (pending_entries srv.number srv.log commits srv.pending) → Current c commits h srv sealed → LogHoldsSome c srv.number srv.log
+current_holds : (c : Contents) (commits : List Commit) (h : HostValue) (srv : Server) (sealed : Bool) → AreFramed commits
+    → AllByRecursion HasFrame (pending_entries srv.number srv.log commits srv.pending) → Current c commits h srv sealed → LogHoldsSome c srv.number srv.log
 current_holds c commits h srv true a b k = sealed_holds c srv.number srv.log (log_entries srv.number srv.log commits) (log_framed srv.number srv.log commits a) k.3
 current_holds c commits h srv false a b k =
     let f = k.writer.file in
-    let w = tail_holds (not srv.whole) (log_entries srv.number srv.log commits) (pending_entries srv.number srv.log commits srv.pending) f.holds.rest f.file.bytes (log_framed srv.number srv.log commits a) b f.holds.bytes f.holds.tail in
+    let w = tail_holds (not srv.whole) (log_entries srv.number srv.log commits) (pending_entries srv.number srv.log commits srv.pending) f.holds.rest f.file.bytes
+    (log_framed srv.number srv.log commits a) b f.holds.bytes f.holds.tail in
     (w.0, record { file = f.file; there = f.there; holds = w.1 })
 
 pub station_holds : (c : Contents) (side : Side) (st : Station) (srv : Server) (l : ℕ) → AreFramed side.commits → StationStands c side st srv → srv.lowest ≤ l → l ≤ srv.log → LogHoldsSome c srv.number l

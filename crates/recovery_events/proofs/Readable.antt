@@ -10,9 +10,9 @@ use Rattle.rep_vault.specs.Contents.{Contents}
 use Rattle.wal_roll.specs.Log.{wal, log_name}
 use Rattle.log_split.specs.Logs.{HoldAll}
 use Rattle.rep_model.specs.Keyed.{given, if_some}
-use Rattle.rep_model.specs.State.{of, is_server, server_of}
+use Rattle.rep_model.specs.State.{Route, of, is_server, server_of}
 use Rattle.rep_model.specs.RegionEvents.{is_last}
-use Rattle.rep_model.specs.Words.{is_paired}
+use Rattle.rep_model.specs.Words.{is_in}
 use Rattle.rep_model.specs.declared.machine.Machine.{Machine}
 use Rattle.rep_model.specs.declared.machine.Commit.{Commit}
 use Rattle.rep_model.specs.declared.machine.Hosted.{Hosted}
@@ -38,7 +38,8 @@ one_more : (P : ℕ → Type 0) (l : ℕ) (logs : List ℕ) → P l → AllByRec
 one_more P l logs p a = cond_both (is_last l logs) logs (logs ++ l ∷ []) (AllByRecursion P) (λ _. a) (λ _. All_append P logs (l ∷ []) a (p, tt))
 
 -- what holds of the log of each unflushed commit holds of all of the logs
-logs_all : (P : ℕ → Type 0) (r above : ℕ) (ks : List Kept) (logs : List ℕ) → AllByRecursion (λ (k : Kept). is_unflushed r above k ≡ true → P k.log) ks → AllByRecursion P logs → AllByRecursion P (logs_after r above ks logs)
+logs_all : (P : ℕ → Type 0) (r above : ℕ) (ks : List Kept) (logs : List ℕ) → AllByRecursion (λ (k : Kept). is_unflushed r above k ≡ true → P k.log) ks → AllByRecursion P logs
+    → AllByRecursion P (logs_after r above ks logs)
 logs_all P r above [] logs h a = a
 logs_all P r above (k ∷ ks) logs h a =
     logs_all P r above ks (log_noted r above k logs) h.1 (cond_both (is_unflushed r above k) (with_log k.log logs) logs (AllByRecursion P) (λ b. one_more P k.log logs (h.0 b) a) (λ _. a))
@@ -74,11 +75,9 @@ seal_unknown o none = sym (ap (λ (p : Option Server). if_some p (λ (v : Server
 -- ---- unflushed commits
 
 -- the logs that hold unflushed commits weren't swept
-abbrev pub UnflushedKept : Side → Type 0
-UnflushedKept side = (h : Hosted) → In h side.regions → (v : Server) → In v side.servers → (x : Commit) → In x side.commits → x.region.number ≡ h.region.number → h.flushed < x.seq → x.server ≡ v.number → v.lowest ≤ x.log
-
-pub unflushed_kept : (own : Cluster) → is_paired own ≡ true → (m : Machine) → Reached m → UnflushedKept (of own m)
-unflushed_kept own pair m reached = subst (λ (n : Machine). UnflushedKept (of own n)) reached.2 (unflushed_are_kept reached.0 reached.1 own pair)
+abbrev UnflushedKept : Side → Type 0
+UnflushedKept side = (h : Hosted) → In h side.regions → (v : Server) → In v side.servers → (x : Commit) → In x side.commits → x.region.number ≡ h.region.number → h.flushed < x.seq
+    → x.server ≡ v.number → v.lowest ≤ x.log
 
 -- a commit of the server
 abbrev OfServer : Side → ℕ → Commit → Type 0
@@ -87,12 +86,14 @@ OfServer side s x = In x side.commits × (x.server ≡ s)
 of_server : (side : Side) (s : ℕ) → AllByRecursion (OfServer side s) (server_commits s side.commits)
 of_server side s = All_passing (λ x. In x side.commits) (OfServer side s) (λ (x : Commit). x.server == s) side.commits (λ x i b. (i, eqb-true x.server s b)) (all_in side.commits)
 
-module _ (own : Cluster) (c : Contents) (core : ClusterCore) (m : Machine) (stands : Stands own c core (of own m)) (reached : Reached m) (kept : UnflushedKept (of own m)) (h : Hosted) (there : In h (of own m).regions) where
-  abbrev r : ℕ
-  r = h.region.number
+module _ {way : Route} (own : Cluster) (c : Contents) (core : ClusterCore) (m : Machine) (stands : Stands own c core (of own m)) (reached : Reached way m) (inside : is_in way own ≡ true) (h : Hosted)
+    (there : In h (of own m).regions) where
+  kept : UnflushedKept (of own m)
+  kept = subst (λ (n : Machine). UnflushedKept (of own n)) reached.leads (unflushed_are_kept way reached.steps reached.legal own inside)
 
   in_log : (x : Commit) → In x (of own m).commits → (v : Server) × (server_of own x.server m ≡ Some v) × (x.log ≤ v.log) × (1 ≤ x.log)
-  in_log = subst (λ (n : Machine). (x : Commit) → In x (of own n).commits → (v : Server) × (server_of own x.server n ≡ Some v) × (x.log ≤ v.log) × (1 ≤ x.log)) reached.2 (commits_are_in_logs reached.0 reached.1 own stands.paired)
+  in_log = subst (λ (n : Machine). (x : Commit) → In x (of own n).commits → (v : Server) × (server_of own x.server n ≡ Some v) × (x.log ≤ v.log) × (1 ≤ x.log)) reached.leads
+      (commits_are_in_logs way reached.steps reached.legal own inside)
 
   commit_holds : (x : Commit) → In x (of own m).commits → x.region.number ≡ h.region.number → h.flushed < x.seq → LogHoldsSome c x.server x.log
   commit_holds x i same above =
@@ -104,7 +105,8 @@ module _ (own : Cluster) (c : Contents) (core : ClusterCore) (m : Machine) (stan
       let low : v.lowest ≤ x.log = kept h there v (found_in (is_server x.server) side.servers v w.1) x i same above (sym number) in
       subst (λ k. LogHoldsSome c k x.log) number (station_holds c side st.0 v x.log stands.framed st.1 low w.2)
 
-  kept_hold : (s : ℕ) (before xs : List Commit) → AllByRecursion (OfServer (of own m) s) xs → AllByRecursion (λ (k : Kept). is_unflushed h.region.number h.flushed k ≡ true → LogHoldsSome c s k.log) (kept_after before xs)
+  kept_hold : (s : ℕ) (before xs : List Commit) → AllByRecursion (OfServer (of own m) s) xs
+      → AllByRecursion (λ (k : Kept). is_unflushed h.region.number h.flushed k ≡ true → LogHoldsSome c s k.log) (kept_after before xs)
   kept_hold s before [] a = tt
   kept_hold s before (x ∷ xs) a = (
     (λ b. let p = and_parts (x.region.number == h.region.number) (nat_lt h.flushed x.seq) b in

@@ -1,4 +1,4 @@
--- What the calls of a recovery tell, one after another.
+-- What the reads of a recovery tell, one after another.
 use Rattle.std.proofs.Common.{ℕ, ◌≤◌, ◌≡◌, Result, Ok, Err, refl, ◌∙◌, subst, arith}
 use Rattle.rep_types.specs.declared.ids.Cluster.{Cluster}
 use Rattle.rep_types.specs.declared.state.Call.{Call}
@@ -9,8 +9,7 @@ use Rattle.wal_roll.specs.Blamed.{IsFault}
 use Rattle.log_split.specs.declared.error.SplitError.{SplitError}
 use Rattle.log_split.specs.declared.error.SplitError.TheVariants.{BadFrame}
 use Rattle.log_split.specs.Told.{ReadFailed, UnlessStopped}
-use Rattle.cluster_core.specs.Changes.{IsRise}
-use Rattle.cluster_core.specs.Does.{IsTold, Counts}
+use Rattle.cluster_core.specs.Does.{IsTold}
 use Rattle.recovery_events.specs.Unflushed.{IfFault, ReadTells}
 use Rattle.recovery_events.specs.declared.reading.ReadError.{ReadError}
 use Rattle.recovery_events.specs.declared.reading.ReadError.TheVariants.{StoreFault, Memory}
@@ -49,11 +48,3 @@ read_later old mid new r kept planned k = record {
 
 pub fault_told : (own : Cluster) (k : Call) (n : ℕ) (old new : Tally) → IsFault k n old new → IsTold own own k n old new
 fault_told own k n old new f = record { store_is = refl; kind = f.kind; count = f.count; rose = f.rose }
-
--- a put behind the reads
-pub put_told : (own : Cluster) (n : ℕ) (old mid new : Tally) → Rises old mid → IsRise n mid new → IsTold own own call.Put n old new
-put_told own n old mid new kept f =
-    fault_told own call.Put n old new (fault_later call.Put n old mid new kept (record { kind = f.kind; count = f.count; rose = f.rose }))
-
-pub counts_both : (old mid new : Tally) → Rises old mid → mid.planned ≡ old.planned → Counts mid new → Counts old new
-counts_both old mid new kept planned k = record { kept = λ j. omega (arith, kept j, k.kept j); planned = k.planned ∙ planned }

@@ -1,10 +1,13 @@
 // A region whose server has died is Off again, once that server's log is sealed.
-ghost use Rattle.std.specs.Prelude.{◌≡◌, ◌-◌, ◌<◌, None, IfOk, IsSome, length, find, slice_get, Some};
+ghost use Rattle.std.specs.Prelude.{◌≡◌, ◌-◌, ◌<◌, true, None, IfOk, IsSome, length, find, slice_get, Some};
 ghost use Rattle.rep_types.specs.declared.event.Event.TheVariants as event;
 ghost use Rattle.rep_vault.specs.Contents.{Contents};
 ghost use Rattle.region_meta.specs.Regions.{region_of};
 ghost use Rattle.rep_model.specs.Keyed.{if_some};
-ghost use Rattle.rep_model.specs.State.{of, is_server};
+ghost use Rattle.rep_model.specs.MoreRows.{recover_plan};
+ghost use Rattle.rep_model.specs.Path.{refusal_of};
+ghost use Rattle.rep_model.specs.State.{Route, of, is_server};
+ghost use Rattle.rep_model.specs.Words.{is_in};
 ghost use Rattle.rep_model.specs.Places.{lost_at};
 ghost use Rattle.rep_model.specs.declared.machine.Machine.{Machine};
 ghost use Rattle.rep_model.specs.declared.machine.Side.{Side};
@@ -15,7 +18,6 @@ ghost use Rattle.cluster_core.specs.Memory.{map_of};
 ghost use Rattle.cluster_core.specs.Stands.{Stands};
 ghost use Rattle.cluster_core.specs.Does.{Standing, Reached, Answers, Counts, FaultTold};
 ghost use Rattle.recovery_events.specs.Effects.{recovered_trace, with_recovered, recovery_changes, IsPrepared};
-ghost use Rattle.recovery_events.specs.Refusals.{recover_refusal};
 
 use crate::reading::{ReadError, read_unflushed};
 use cluster_core::{
@@ -64,7 +66,7 @@ fn is_sealed(stations: &Items<Station>, server: ServerId) -> bool
 // Why the region isn't recovered.
 fn refusal(core: &ClusterCore, number: RegionId) -> Option<Refusal>
     ensures { (m : Machine) (c : Contents) → core.now.map ≡ map_of (of core.now.own m) → ServersStand c (of core.now.own m) core.now.stations
-        → result ≡ recover_refusal core.now.own number m }
+        → result ≡ refusal_of (recover_plan core.now.own number m) }
 {
     let found = match region(&core.map, number) {
         Some(found) => found,
@@ -142,8 +144,8 @@ pub fn recover<V: Vault>(
     region: RegionId,
 ) -> Result<Reply, CoreError>
     requires { Standing core.old.own (V.contents own.old) core.old }
-    ensures does { (m : Machine) → Reached m → Stands core.old.own (V.contents own.old) core.old (of core.old.own m)
-        → Answers core.old.own (event.Recover core.old.own region) m (V.contents own.old) core.old (V.contents own.new) core.new result }
+    ensures does { (way : Route) (m : Machine) → Reached way m → is_in way core.old.own ≡ true → Stands core.old.own (V.contents own.old) core.old (of core.old.own m)
+        → Answers way core.old.own (event.Recover core.old.own region) m (V.contents own.old) core.old (V.contents own.new) core.new result }
     ensures counts { Counts (V.tally own.old) (V.tally own.new) }
     ensures told { IfOk result (λ reply. FaultTold core.old.own reply (V.tally own.old) (V.tally own.new)) }
 {

@@ -1,23 +1,26 @@
--- The row of a region that begins to close, and what it leaves.
-use Rattle.std.proofs.Common.{ℕ, ◌≡◌, not, Bool, List, [], ◌∷◌, find, Option, Some, None, is_some, is_none, refl, ap, sym, ◌∙◌, subst, eqb-true}
+-- A region that begins to close.
+use Rattle.std.proofs.Common.{ℕ, ◌≡◌, find, Option, Some, None, refl, ap, sym, ◌∙◌, subst, eqb-true}
 use Rattle.std.specs.Prelude.{IsSome}
 use Rattle.std.specs.Option.{option_map}
 use Rattle.std.proofs.lemmas.Option.{same_Some, none-some}
 use Rattle.rep_types.specs.declared.ids.Cluster.{Cluster}
 use Rattle.rep_types.specs.declared.state.PlaceOf.{PlaceOf}
 use Rattle.rep_types.specs.declared.state.PlaceOf.TheVariants.{Off, Opening, On, Closing, Lost, Gone}
-use Rattle.rep_types.specs.declared.refusal.Refusal.{Refusal}
+use Rattle.rep_types.specs.declared.event.Event.TheVariants as event
 use Rattle.rep_types.specs.declared.refusal.Refusal.TheVariants as refusal
 use Rattle.rep_types.specs.declared.reply.Reply.TheVariants as reply
 use Rattle.rep_vault.specs.Contents.{Contents}
 use Rattle.region_meta.specs.Regions as meta
 use Rattle.region_meta.specs.Changes as change
 use Rattle.region_meta.specs.declared.region.Region.{Region as MapRegion}
-use Rattle.rep_model.specs.Keyed.{given}
-use Rattle.rep_model.specs.State.{of, is_region, with_region}
+use Rattle.rep_model.specs.MoreRows.{close_begin_plan}
+use Rattle.rep_model.specs.Path.{refusal_of}
+use Rattle.rep_model.specs.Plan.{told}
+use Rattle.rep_model.specs.Rows.{row}
+use Rattle.rep_model.specs.State.{Route, of, is_region, region_of, with_region}
 use Rattle.rep_model.specs.Places.{is_gone, on_at}
-use Rattle.rep_model.specs.Row.{Row, answers, first}
-use Rattle.rep_model.specs.RegionEvents.{moved, placed_refusals, place_of, close_begin_row}
+use Rattle.rep_model.specs.Row.{answers}
+use Rattle.rep_model.specs.RegionEvents.{moved}
 use Rattle.rep_model.specs.declared.machine.Machine.{Machine}
 use Rattle.rep_model.specs.declared.machine.Side.{Side}
 use Rattle.rep_model.specs.declared.machine.Hosted.{Hosted}
@@ -28,9 +31,8 @@ use Rattle.cluster_core.specs.Memory.{map_of, map_region, server_at}
 use Rattle.cluster_core.specs.Stands.{Stands}
 use Rattle.cluster_core.specs.Texts.{place_text}
 use Rattle.cluster_core.proofs.Lookups.{region_of_map, mapped_some}
-use Rattle.cluster_core.proofs.Simple.{simple_refused, simple_done, does_with, does_nothing}
+use Rattle.cluster_core.proofs.Simple.{does_with}
 use Rattle.region_events.specs.Closing.{IsOn}
-use Rattle.region_events.specs.Refusals.{close_refusal}
 use Rattle.region_events.proofs.Moving.{moved_side, region_moved}
 
 -- ---- where the region is
@@ -52,20 +54,6 @@ is_there map r s on = by (meta.region_of r map) on
 
 -- ---- why it doesn't begin to close
 
-abbrev tests : Option Hosted → List (Bool × Refusal)
-tests o = (is_none o, refusal.NoRegion) ∷ (not (is_some (on_at (given o Gone (λ h. h.place)))), refusal.WrongPlace (given o Gone (λ h. h.place))) ∷ []
-
-no_region_is : first (tests None) ≡ Some refusal.NoRegion
-no_region_is = refl
-
-wrong_is : (h : Hosted) → on_at h.place ≡ None → first (tests (Some h)) ≡ Some (refusal.WrongPlace h.place)
-unfolding given
-wrong_is h e = ap (λ (o : Option ℕ). first ((not (is_some o), refusal.WrongPlace h.place) ∷ [])) e
-
-none_is : (h : Hosted) (s : ℕ) → h.place ≡ On s → first (tests (Some h)) ≡ None
-unfolding given
-none_is h s e = ap (λ (p : PlaceOf). first ((not (is_some (on_at p)), refusal.WrongPlace p) ∷ [])) e
-
 -- the place that memory has is that of the side
 module _ (own : Cluster) (map : meta.Map) (r : ℕ) (m : Machine) (same : map ≡ map_of (of own m)) where
   abbrev regions : Option Hosted
@@ -81,40 +69,33 @@ module _ (own : Cluster) (map : meta.Map) (r : ℕ) (m : Machine) (same : map �
   hosted : (p : PlaceOf) → Some p ≡ option_map (λ (x : MapRegion). x.place) (meta.region_of r map) → (h : Hosted) × (regions ≡ Some h) × (p ≡ h.place)
   hosted p have = mapped_some (λ (h : Hosted). h.place) regions p (have ∙ places)
 
-  pub close_no_region : None ≡ option_map (λ (x : MapRegion). x.place) (meta.region_of r map) → close_refusal own r m ≡ Some refusal.NoRegion
-  close_no_region none = ap (λ (o : Option Hosted). first (tests o)) (by regions (none ∙ places)) ∙ no_region_is
+  pub close_no_region : None ≡ option_map (λ (x : MapRegion). x.place) (meta.region_of r map) → refusal_of (close_begin_plan own r m) ≡ Some refusal.NoRegion
+  unfolding close_begin_plan
+  close_no_region none = let e : region_of own r m ≡ None = by regions (none ∙ places) in rw e refl
     where
       by : (o : Option Hosted) → None ≡ option_map (λ (h : Hosted). h.place) o → o ≡ None
       by None e = refl
       by (Some h) e = absurd (none-some h.place e)
 
-  pub close_wrong : (p : PlaceOf) → Some p ≡ option_map (λ (x : MapRegion). x.place) (meta.region_of r map) → None ≡ on_at p → close_refusal own r m ≡ Some (refusal.WrongPlace p)
+  pub close_wrong : (p : PlaceOf) → Some p ≡ option_map (λ (x : MapRegion). x.place) (meta.region_of r map) → None ≡ on_at p → refusal_of (close_begin_plan own r m) ≡ Some (refusal.WrongPlace p)
+  unfolding close_begin_plan
   close_wrong p have none =
       let h = hosted p have in
-      ap (λ (o : Option Hosted). first (tests o)) h.1 ∙ (wrong_is h.0 (ap on_at (sym h.2) ∙ sym none) ∙ ap (λ (q : PlaceOf). Some (refusal.WrongPlace q)) (sym h.2))
+      let there : region_of own r m ≡ Some h.0 = h.1 in
+      let nowhere : on_at h.0.place ≡ None = ap on_at (sym h.2) ∙ sym none in
+      let wrong : Some (refusal.WrongPlace h.0.place) ≡ Some (refusal.WrongPlace p) = ap (λ (q : PlaceOf). Some (refusal.WrongPlace q)) (sym h.2) in
+      rw (there, refusal_of, nowhere) wrong
 
 -- ---- the event
 
--- the row's own words
-abbrev refusals : Cluster → ℕ → Machine → List (Bool × Refusal)
-refusals c r m = placed_refusals c r (is_some (on_at (place_of c r m))) m []
+row_is : (c : Cluster) (r : ℕ) (m : Machine) (h : Hosted) (s : ℕ) → region_of c r m ≡ Some h → on_at h.place ≡ Some s
+    → told (close_begin_plan c r m) reply.Done m ≡ answers reply.Done (with_region c (moved (Closing s) h) m)
+unfolding close_begin_plan
+row_is c r m h s there on = rw (there, told, on) refl
 
-abbrev effect_of : Cluster → Option Hosted → Machine → Row
-effect_of c o m = given o (answers reply.Done m) (λ h. given (on_at h.place) (answers reply.Done m) (λ s. answers reply.Done (with_region c (moved (Closing s) h) m)))
-
-effect_is : (c : Cluster) (o : Option Hosted) (h : Hosted) (s : ℕ) (m : Machine) → o ≡ Some h → h.place ≡ On s → effect_of c o m ≡ answers reply.Done (with_region c (moved (Closing s) h) m)
-unfolding given
-effect_is c o h s m known on =
-    ap (λ (w : Option Hosted). effect_of c w m) known
-    ∙ ap (λ (p : PlaceOf). given (on_at p) (answers reply.Done m) (λ t. answers reply.Done (with_region c (moved (Closing t) h) m))) on
-
-module _ (own : Cluster) (c : Contents) (core : ClusterCore) (r : ℕ) (m : Machine) (stands : Stands own c core (of own m)) where
-  pub close_refused : (why : Refusal) → close_refusal own r m ≡ Some why → Does own (close_begin_row own r (reply.Refused why) m) m c core (reply.Refused why)
-  unfolding close_begin_row
-  close_refused why e = does_nothing own _ m c core (reply.Refused why) (simple_refused (refusals own r m) [] (reply.Refused why) m (effect_of own (find (is_region r) (of own m).regions) m) why e) stands
-
-  pub close_done : (s : ℕ) (core' : ClusterCore) → IsOn core.map r s → core' ≡ record core { map = change.placed r (Closing s) core.map } → Does own (close_begin_row own r reply.Done m) m c core' reply.Done
-  unfolding close_begin_row
+module _ (way : Route) (own : Cluster) (c : Contents) (core : ClusterCore) (r : ℕ) (m : Machine) (stands : Stands own c core (of own m)) where
+  pub close_done : (s : ℕ) (core' : ClusterCore) → IsOn core.map r s → core' ≡ record core { map = change.placed r (Closing s) core.map }
+      → Does own (row way (event.CloseBegin own r) reply.Done m) m c core' reply.Done
   close_done s core' on made =
       let side : Side = of own m in
       let found = hosted own core.map r m stands.regions (On s) (sym on) in
@@ -123,8 +104,7 @@ module _ (own : Cluster) (c : Contents) (core : ClusterCore) (r : ℕ) (m : Mach
       let number_is : h.region.number ≡ r = eqb-true h.region.number r (found_passes (is_region r) side.regions h found.1) in
       let there : find (is_region h.region.number) side.regions ≡ Some h = ap (λ k. find (is_region k) side.regions) number_is ∙ found.1 in
       let left : Stands own c (record core { map = change.placed h.region.number (Closing s) core.map }) (moved_side (Closing s) h side) =
-      region_moved own c core side stands h there (Closing s) (sym (ap server_at place)) (sym (ap place_text place)) (sym (ap is_gone place)) (ap (λ (p : PlaceOf). change.next_place p (Closing s)) place) in
-      does_with own (close_begin_row own r reply.Done m) m (moved_side (Closing s) h side) c core' reply.Done stands.paired
-      (simple_done (refusals own r m) [] reply.Done m (effect_of own (find (is_region r) side.regions) m) (ap (λ (o : Option Hosted). first (tests o)) found.1 ∙ none_is h s place) refl
-      ∙ effect_is own (find (is_region r) side.regions) h s m found.1 place)
+      region_moved own c core side stands h there (Closing s) (sym (ap server_at place)) (sym (ap place_text place)) (sym (ap is_gone place))
+      (ap (λ (p : PlaceOf). change.next_place p (Closing s)) place) in
+      does_with own _ m (moved_side (Closing s) h side) c core' reply.Done (row_is own r m h s found.1 (ap on_at place))
       (subst (λ (k : ClusterCore). Stands own c k (moved_side (Closing s) h side)) ((λ i. record core { map = change.placed (number_is i) (Closing s) core.map }) ∙ sym made) left)

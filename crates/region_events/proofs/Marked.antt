@@ -11,7 +11,6 @@ use Rattle.rep_types.specs.declared.state.PlaceOf.{PlaceOf}
 use Rattle.rep_types.specs.declared.state.PlaceOf.TheVariants.{Off, Opening, On, Closing, Lost, Gone}
 use Rattle.rep_types.specs.declared.state.Call.{Call}
 use Rattle.rep_types.specs.declared.entry.Entry.{Entry}
-use Rattle.rep_types.specs.declared.event.Event.{Event}
 use Rattle.rep_types.specs.declared.refusal.Refusal.{Refusal}
 use Rattle.rep_types.specs.declared.refusal.Refusal.TheVariants as refusal
 use Rattle.rep_types.specs.declared.reply.Reply.{Reply}
@@ -25,16 +24,17 @@ use Rattle.wal_roll.specs.Log.{LogValue}
 use Rattle.region_server.specs.Host.{Stands as HostStands}
 use Rattle.region_meta.specs.Regions as meta
 use Rattle.rep_model.specs.Keyed.{replace}
-use Rattle.rep_model.specs.State.{of, other, mark, is_server, is_region}
+use Rattle.rep_model.specs.State.{Route, of, mark, is_server, is_region}
+use Rattle.rep_model.specs.Words.{is_in}
+use Rattle.rep_model.specs.Path.{refusal_of}
+use Rattle.rep_model.specs.PlanRows as plans
 use Rattle.rep_model.specs.Places.{opens_at, closes_at, capped, used, lacks_room}
 use Rattle.rep_model.specs.Changes.{takes_pending}
 use Rattle.rep_model.specs.Commits.{commit_count, pending_count}
 use Rattle.rep_model.specs.Tickets.{acks, is_acknowledged, newly}
 use Rattle.rep_model.specs.LogEvents.{own_pending, emptied}
-use Rattle.rep_model.specs.Row.{answers, first}
-use Rattle.rep_model.specs.Rows.{row}
-use Rattle.rep_model.specs.RegionEvents.{Marking, marking, marker_refusals, marked_at, moved}
-use Rattle.rep_model.specs.declared.faults.Site.{Site}
+use Rattle.rep_model.specs.Row.{answers, fault_among}
+use Rattle.rep_model.specs.RegionEvents.{moved}
 use Rattle.rep_model.specs.declared.machine.Machine.{Machine}
 use Rattle.rep_model.specs.declared.machine.Side.{Side}
 use Rattle.rep_model.specs.declared.machine.Commit.{Commit}
@@ -43,6 +43,8 @@ use Rattle.rep_model.specs.declared.machine.Server.{Server}
 use Rattle.rep_model.specs.declared.machine.Ticket.{Ticket}
 use Rattle.rep_laws.proofs.Lists.{In, found_in, found_passes, All_found}
 use Rattle.rep_laws.proofs.Acts.{works_at}
+use Rattle.rep_laws.proofs.Citing.{is_refused}
+use Rattle.rep_laws.proofs.CitingRows.{row_broken, row_need_roll, row_failed, row_done}
 use Rattle.rep_laws.proofs.CitedMore.{working_is_live}
 use Rattle.rep_laws.proofs.Sides.{settled_side, told_after, wrote}
 use Rattle.cluster_core.specs.declared.parts.ClusterCore.{ClusterCore}
@@ -70,8 +72,8 @@ use Rattle.cluster_core.proofs.Simple.{does_with}
 use Rattle.cluster_core.proofs.Synced.{host_stands}
 use Rattle.region_events.specs.declared.markers.Ending.{Ending}
 use Rattle.region_events.specs.declared.markers.Ending.TheVariants as ending
-use Rattle.region_events.specs.Marks.{ends_at, kind_of, unmarked, HasMarking, IsMarker}
-use Rattle.region_events.proofs.Marking.{marker_row, has_place, row_refused, row_broken, row_need_roll, row_failed, row_done}
+use Rattle.region_events.specs.Marks.{ends_at, ended, kind_of, last_sites, ending_event, ending_plan, unmarked, HasMarking, IsMarker}
+use Rattle.region_events.proofs.Marking.{row_is, is_call}
 use Rattle.region_events.proofs.Moving.{moved_side}
 
 -- ---- of both kinds
@@ -148,10 +150,9 @@ marker_entry w own r seq = record { region = r; seq = seq; kind = kind_of w; mar
 
 -- ---- a marker whose place is known
 
-module _ (w : Ending) (own : Cluster) (old : Contents) (core : ClusterCore) (m : Machine) (r at : ℕ) (reached : Reached m) (stands : Stands own old core (of own m)) (k : HasMarking (ends_at w) own old core.stations r m at) where
-  abbrev marks : Marking
-  marks = record { hosted = k.hosted; server = k.station.server }
-
+module _ {way : Route} (w : Ending) (own : Cluster) (old : Contents) (core : ClusterCore) (m : Machine) (r at : ℕ) (reached : Reached way m) (inside : is_in way own ≡ true)
+    (stands : Stands own old core (of own m))
+    (k : HasMarking (ends_at w) own old core.stations r m at) where
   abbrev waits : Pending
   waits = own_pending own k.hosted.region (kind_of w) None
 
@@ -173,15 +174,16 @@ module _ (w : Ending) (own : Cluster) (old : Contents) (core : ClusterCore) (m :
   lives : k.station.server.live ≡ true
   lives =
       let v : (v : Server) × (find (is_server k.on) (of own m).servers ≡ Some v) × (v.live ≡ true) =
-      subst (λ (n : Machine). In k.hosted (of own n).regions → (v : Server) × (find (is_server k.on) (of own n).servers ≡ Some v) × (v.live ≡ true)) reached.2
-      (λ i. working_is_live reached.0 reached.1 own stands.paired k.hosted i k.on (ends_works w k.hosted.place k.on k.place)) (found_in (is_region r) (of own m).regions k.hosted k.known) in
+      subst (λ (n : Machine). In k.hosted (of own n).regions → (v : Server) × (find (is_server k.on) (of own n).servers ≡ Some v) × (v.live ≡ true)) reached.leads
+      (λ i. working_is_live way reached.steps reached.legal own inside k.hosted i k.on (ends_works w k.hosted.place k.on k.place)) (found_in (is_region r) (of own m).regions k.hosted k.known) in
       ap (λ (x : Server). x.live) (same_Some k.station.server v.0 (sym k.station.known ∙ v.1)) ∙ v.2
 
   pub tidy : IsOrderly (of own m)
-  tidy = orderly own stands.paired m reached
+  tidy = orderly own inside m reached
 
   unsealed : k.station.server.sealed ≡ false
-  unsealed = not_sealed k.station.server.sealed k.station.server.live lives (All_found (λ (v : Server). v.sealed ≡ true → v.live ≡ false) (is_server k.on) (of own m).servers k.station.server k.station.known tidy.sealed_dead)
+  unsealed = not_sealed k.station.server.sealed k.station.server.live lives
+      (All_found (λ (v : Server). v.sealed ≡ true → v.live ≡ false) (is_server k.on) (of own m).servers k.station.server k.station.known tidy.sealed_dead)
 
   fits : used own k.station.server m ≤ 65536
   fits = All_found (FitsLog (of own m).commits) (is_server k.on) (of own m).servers k.station.server k.station.known tidy.fits
@@ -199,46 +201,44 @@ module _ (w : Ending) (own : Cluster) (old : Contents) (core : ClusterCore) (m :
       let same : k.station.station ≡ st = same_Some k.station.station st (sym k.station.there ∙ found) in
       subst (λ (y : Station). HostStands old y.host) same (log_of (of own m).commits k.station.server, host_stands old (of own m) k.station.station k.station.server k.station.stands unsealed)
 
-  pub is_marking : marking (ends_at w) own r m ≡ Some marks
-  is_marking = has_place (ends_at w) own r m k.hosted k.known k.on k.station.server k.place k.station.known
+  -- where it wasn't committed
+  module _ (new : Contents) (core' : ClusterCore) (s l : ℕ) (server : (st : Station) → slice_get core.stations at ≡ Some st → s ≡ st.host.log.server)
+      (log : (st : Station) → slice_get core.stations at ≡ Some st → l ≡ st.host.log.number) where
+    refused : (why : Refusal) → refusal_of (ending_plan w own r m) ≡ Some why → core' ≡ core → new ≡ old → Answers way own (ending_event w own r) m old core new core' (Ok (reply.Refused why))
+    refused why e a b =
+        does_refused own _ m new core' why (row_is way w own r (reply.Refused why) m ∙ is_refused (ending_plan w own r m) why (reply.Refused why) m e)
+        (subst (λ (v : ClusterCore). Stands own new v (of own m)) (sym a) (subst (λ (c : Contents). Stands own c core (of own m)) (sym b) stands))
 
-  -- where it wasn't committed, for an event with such a row
-  module _ (x : Event) (goes : ℕ → PlaceOf) (rest : List Site) (row_is : (said : Reply) → row x said m ≡ marker_row (ends_at w) goes (kind_of w) rest own r said m) (new : Contents) (core' : ClusterCore) (s l : ℕ)
-      (server : (st : Station) → slice_get core.stations at ≡ Some st → s ≡ st.host.log.server) (log : (st : Station) → slice_get core.stations at ≡ Some st → l ≡ st.host.log.number) where
-    stays : core' ≡ core → new ≡ old → Stands own new core' (of own m)
-    stays a b = subst (λ (v : ClusterCore). Stands own new v (of own m)) (sym a) (subst (λ (c : Contents). Stands own c core (of own m)) (sym b) stands)
-
-    by_error : (why : EntryError) → Enters own old core (of own m) k.station.server waits new core' (Err why) → Answers own x m old core new core' (unmarked own s l why)
+    by_error : (why : EntryError) → Enters own old core (of own m) k.station.server waits new core' (Err why) → Answers way own (ending_event w own r) m old core new core' (unmarked own s l why)
     by_error Broken q =
-        let said : Reply = reply.Refused (refusal.Broken l) in
-        does_refused own (row x said m) m new core' (refusal.Broken l)
-        (row_is said
-        ∙ (row_broken (ends_at w) own r m k.hosted k.known marks is_marking goes (kind_of w) rest said q.0
-        ∙ ap (λ n. answers (reply.Refused (refusal.Broken n)) m) (sym (log k.station.station k.station.there ∙ log_number))))
-        (stays q.1 q.2)
+        refused (refusal.Broken l)
+        (row_broken (ends_at w) (ended w) (kind_of w) (last_sites w own) own r m k.hosted k.known k.on k.place k.station.server k.station.known q.0
+        ∙ ap (λ n. Some (refusal.Broken n)) (sym (log k.station.station k.station.there ∙ log_number)))
+        q.1 q.2
     by_error (NeedRoll u n) q =
-        let said : Reply = reply.Refused (refusal.NeedRoll s u n) in
         let server_same : k.station.server.number ≡ s = sym (server k.station.station k.station.there ∙ log_same) in
         let used_same : capped (used own k.station.server m) ≡ u = capped_same (used own k.station.server m) fits ∙ sym q.1 in
         let needed : n ≡ 32 = q.2 ∙ length_is w in
-        does_refused own (row x said m) m new core' (refusal.NeedRoll s u n)
-        (row_is said
-        ∙ (row_need_roll (ends_at w) own r m k.hosted k.known marks is_marking goes (kind_of w) rest said q.0 (no_room u (used own k.station.server m) n q.1 needed q.3)
-        ∙ (λ i. answers (reply.Refused (refusal.NeedRoll (server_same i) (used_same i) (sym needed i))) m)))
-        (stays q.4 q.5)
+        refused (refusal.NeedRoll s u n)
+        (row_need_roll (ends_at w) (ended w) (kind_of w) (last_sites w own) own r m k.hosted k.known k.on k.place k.station.server k.station.known q.0
+        (no_room u (used own k.station.server m) n q.1 needed q.3)
+        ∙ (λ i. Some (refusal.NeedRoll (server_same i) (used_same i) (sym needed i))))
+        q.4 q.5
     by_error (StoreFault j n) q =
-        let said : Reply = reply.StoreFault own j n in
-        does_with own (row x said m) m (standing_so (takes_pending waits false k.station.server) (of own m)) new core' said stands.paired
-        (row_is said
-        ∙ row_failed (ends_at w) own r m k.hosted k.known marks is_marking goes (kind_of w) rest j n q.0 (has_space w own k.station.server m q.1) q.2) q.3
+        does_with own _ m (standing_so (takes_pending waits false k.station.server) (of own m)) new core' (reply.StoreFault own j n)
+        (row_is way w own r (reply.StoreFault own j n) m
+        ∙ row_failed (ends_at w) (ended w) (kind_of w) (last_sites w own) own r m k.hosted k.known k.on k.place k.station.server k.station.known q.0 (has_space w own k.station.server m q.1) j n
+        (is_call own j q.2))
+        q.3
     by_error (Memory changed) q = q
 
-    pub not_marked : (why : EntryError) (result : Result Reply CoreError) → result ≡ unmarked own s l why → Enters own old core (of own m) k.station.server waits new core' (Err why) → Answers own x m old core new core' result
-    not_marked why result is q = subst (λ (a : Result Reply CoreError). Answers own x m old core new core' a) (sym is) (by_error why q)
+    pub not_marked : (why : EntryError) (result : Result Reply CoreError) → result ≡ unmarked own s l why → Enters own old core (of own m) k.station.server waits new core' (Err why)
+        → Answers way own (ending_event w own r) m old core new core' result
+    not_marked why result is q = subst (λ (a : Result Reply CoreError). Answers way own (ending_event w own r) m old core new core' a) (sym is) (by_error why q)
 
   module _ (e : Entry) (is : IsMarker own core.index r (kind_of w) e) where
     pub seq_is : e.seq ≡ commit_count k.hosted.region.number (of own m).commits + pending_count k.hosted.region.number k.station.server.pending + 1
-    seq_is = next_of own stands.paired m reached r k.hosted k.on k.station.server k.known seated k.station.known core.index e.seq stands.index is.id
+    seq_is = next_of own inside m reached r k.hosted k.on k.station.server k.known seated k.station.known core.index e.seq stands.index is.id
 
     framed : HasFrame e
     framed = subst HasFrame (sym is.entry) (record {
@@ -263,58 +263,76 @@ module _ (w : Ending) (own : Cluster) (old : Contents) (core : ClusterCore) (m :
     abbrev committed : Side
     committed = committed_side k.station.server (emptied k.station.server) all (of own m)
 
-    pub stays_known : (mid : Contents) (core' : ClusterCore) (ks : List ℕ) → Enters own old core (of own m) k.station.server (own_pending own k.hosted.region (kind_of w) None) mid core' (Ok ks) → IsSome (meta.region_of r core'.map)
+    pub stays_known : (mid : Contents) (core' : ClusterCore) (ks : List ℕ) → Enters own old core (of own m) k.station.server (own_pending own k.hosted.region (kind_of w) None) mid core' (Ok ks)
+        → IsSome (meta.region_of r core'.map)
     stays_known mid core' ks q = subst IsSome (sym (region_of_map r core'.map committed q.3.regions ∙ ap (option_map map_region) k.known)) refl
 
     module _ (place : PlaceOf) where
       abbrev begun : Side
-      begun = record (of own m) { servers = replace (is_server k.station.server.number) (emptied k.station.server) (of own m).servers; regions = replace (is_region k.hosted.region.number) (moved place k.hosted) (of own m).regions }
+      begun = record (of own m) {
+        servers = replace (is_server k.station.server.number) (emptied k.station.server) (of own m).servers;
+        regions = replace (is_region k.hosted.region.number)
+            (moved place k.hosted) (of own m).regions;
+      }
 
       abbrev tickets : List Ticket
       tickets = told_after own k.station.server.number k.station.server.log all begun m.tickets
 
       abbrev after : Machine
-      after = marked_at own marks (kind_of w) place m
+      after = plans.marked own k.hosted k.station.server waits place m
 
       after_is : after ≡ left_with own (moved_side place k.hosted committed) tickets m
       after_is =
           settled_side own k.station.server.number k.station.server.log all begun m
-          ∙ ap (λ (xs : List Commit). left_with own (record begun { commits = (of own m).commits ++ xs; written = wrote all (of own m).written }) tickets m) (coming_numbered k.station.server.number k.station.server.log (of own m).commits all)
+          ∙ ap (λ (xs : List Commit). left_with own (record begun { commits = (of own m).commits ++ xs; written = wrote all (of own m).written }) tickets m)
+          (coming_numbered k.station.server.number k.station.server.log (of own m).commits all)
 
       acks_same : acks m after ≡ tickets_of k.station.server.pending
       acks_same =
           ap (λ (n : Machine). newly is_acknowledged 1 m.tickets n.tickets) after_is
-          ∙ (ap (newly is_acknowledged 1 m.tickets) (all_plain own k.station.server.number k.station.server.log all begun m.tickets stands.link ∙ ap (λ ks. plain_from 1 ks m.tickets) (tickets_pushed k.station.server.pending waits))
-          ∙ acks_are own stands.paired m reached k.on k.station.server k.station.known lives)
+          ∙ (ap (newly is_acknowledged 1 m.tickets) (all_plain own k.station.server.number k.station.server.log all begun m.tickets stands.link
+          ∙ ap (λ ks. plain_from 1 ks m.tickets) (tickets_pushed k.station.server.pending waits))
+          ∙ acks_are own inside m reached k.on k.station.server k.station.known lives)
 
-    -- the region has moved, for an event with such a row
-    pub marked : (x : Event) (goes : ℕ → PlaceOf) (rest : List Site) → ((said : Reply) → row x said m ≡ marker_row (ends_at w) goes (kind_of w) rest own r said m)
-        → (mid new : Contents) (core' core'' : ClusterCore) (ks : List ℕ) → Enters own old core (of own m) k.station.server (own_pending own k.hosted.region (kind_of w) None) mid core' (Ok ks)
-        → Stands own new core'' (moved_side (goes k.station.server.number) k.hosted (committed_side k.station.server (emptied k.station.server) (k.station.server.pending ++ own_pending own k.hosted.region (kind_of w) None ∷ []) (of own m)))
-        → Answers own x m old core new core'' (Ok (reply.Marked e.seq ks))
-    marked x goes rest row_is mid new core' core'' ks q left =
+    -- no call failed
+    calm : (n : ℕ) (ks : List ℕ) → fault_among (last_sites w own) (reply.Marked n ks) ≡ None
+    calm n ks = by w
+      where
+        by : (v : Ending) → fault_among (last_sites v own) (reply.Marked n ks) ≡ None
+        by ending.Opens = refl
+        by ending.Closes = refl
+
+    -- the region has moved
+    pub marked : (mid new : Contents) (core' core'' : ClusterCore) (ks : List ℕ) → Enters own old core (of own m) k.station.server (own_pending own k.hosted.region (kind_of w) None) mid core' (Ok ks)
+        → Stands own new core'' (moved_side (ended w k.station.server.number) k.hosted
+        (committed_side k.station.server (emptied k.station.server) (k.station.server.pending ++ own_pending own k.hosted.region (kind_of w) None ∷ []) (of own m)))
+        → Answers way own (ending_event w own r) m old core new core'' (Ok (reply.Marked e.seq ks))
+    marked mid new core' core'' ks q left =
         let said : Reply = reply.Marked e.seq ks in
-        let place : PlaceOf = goes k.station.server.number in
+        let place : PlaceOf = ended w k.station.server.number in
         let acked : acks m (after place) ≡ ks = acks_same place ∙ (ap (λ b. waiting b (tickets_of k.station.server.pending)) (sym lives) ∙ sym q.2) in
-        does own (row x said m) m (after place) new core'' said
-        (row_is said
-        ∙ (row_done (ends_at w) own r m k.hosted k.known marks is_marking goes (kind_of w) rest said q.0 (has_space w own k.station.server m q.1) refl
+        does own _ m (after place) new core'' said
+        (row_is way w own r said m
+        ∙ (row_done (ends_at w) (ended w) (kind_of w) (last_sites w own) own r m k.hosted k.known k.on k.place k.station.server k.station.known q.0 (has_space w own k.station.server m q.1) said refl
+        (calm e.seq ks)
         ∙ (λ i. answers (reply.Marked (sym seq_is i) (acked i)) (after place))))
         (subst (λ (v : Side). Stands own new core'' v) (sym (ap (of own) (after_is place) ∙ of_left own (moved_side place k.hosted committed) (tickets place) m)) left)
-        (ap (of (other own)) (after_is place) ∙ beside_left own (moved_side place k.hosted committed) (tickets place) m stands.paired)
+        (λ d n. ap (of d) (after_is place) ∙ beside_left own (moved_side place k.hosted committed) (tickets place) m d n)
         (ap (λ (n : Machine). n.flights) (after_is place) ∙ flights_left own (moved_side place k.hosted committed) (tickets place) m)
 
 -- ---- where it isn't made
 
-pub end_refused : (w : Ending) (own : Cluster) (r : ℕ) (m : Machine) (c : Contents) (core : ClusterCore) (x : Event) (goes : ℕ → PlaceOf) (rest : List Site) → ((said : Reply) → row x said m ≡ marker_row (ends_at w) goes (kind_of w) rest own r said m)
-    → (why : Refusal) → first (marker_refusals (ends_at w) own r m) ≡ Some why → Stands own c core (of own m) → Answers own x m c core c core (Ok (reply.Refused why))
-end_refused w own r m c core x goes rest row_is why e stands =
-    does_refused own (row x (reply.Refused why) m) m c core why (row_is (reply.Refused why) ∙ row_refused (ends_at w) own r m goes (kind_of w) rest (reply.Refused why) why e) stands
+pub end_refused : (way : Route) (w : Ending) (own : Cluster) (r : ℕ) (m : Machine) (c : Contents) (core : ClusterCore) (why : Refusal) → refusal_of (ending_plan w own r m) ≡ Some why
+    → Stands own c core (of own m)
+    → Answers way own (ending_event w own r) m c core c core (Ok (reply.Refused why))
+end_refused way w own r m c core why e stands =
+    does_refused own _ m c core why (row_is way w own r (reply.Refused why) m ∙ is_refused (ending_plan w own r m) why (reply.Refused why) m e) stands
 
 -- ---- counts of faults
 
 -- a fault of the entry is told of the cluster's own store
-pub told_so : (own : Cluster) (s l : ℕ) (why : EntryError) (result : Result Reply CoreError) (old new : Tally) → result ≡ unmarked own s l why → ((j : Call) (n : ℕ) → ◌≡◌ {A = Result (List ℕ) EntryError} (Err why) (failed_by j n) → IsFault j n old new)
+pub told_so : (own : Cluster) (s l : ℕ) (why : EntryError) (result : Result Reply CoreError) (old new : Tally) → result ≡ unmarked own s l why
+    → ((j : Call) (n : ℕ) → ◌≡◌ {A = Result (List ℕ) EntryError} (Err why) (failed_by j n) → IsFault j n old new)
     → IfOk result (λ said. FaultTold own said old new)
 told_so own s l why result old new is fault = subst (λ (a : Result Reply CoreError). IfOk a (λ said. FaultTold own said old new)) (sym is) (by why fault)
   where

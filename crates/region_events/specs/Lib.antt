@@ -1,4 +1,3 @@
 pub mod Closing
 pub mod Effects
 pub mod Marks
-pub mod Refusals

@@ -1,7 +1,11 @@
 -- Where a region's marker goes, what entry it is, and what is answered where it isn't committed.
-use Rattle.std.specs.Prelude.{ℕ, ◌≡◌, List, find, Option, Some, None, Result, Ok, Err}
+use Rattle.std.specs.Prelude.{ℕ, ◌≡◌, List, [], ◌∷◌, find, Option, Some, None, Result, Ok, Err}
 use Rattle.rep_types.specs.declared.ids.Cluster.{Cluster}
 use Rattle.rep_types.specs.declared.state.PlaceOf.{PlaceOf}
+use Rattle.rep_types.specs.declared.state.PlaceOf.TheVariants as place
+use Rattle.rep_types.specs.declared.state.Call.TheVariants as call
+use Rattle.rep_types.specs.declared.event.Event.{Event}
+use Rattle.rep_types.specs.declared.event.Event.TheVariants as event
 use Rattle.rep_types.specs.declared.entry.Entry.{Entry}
 use Rattle.rep_types.specs.declared.entry.EntryKind.{EntryKind}
 use Rattle.rep_types.specs.declared.entry.EntryKind.TheVariants as kind
@@ -11,6 +15,10 @@ use Rattle.rep_types.specs.declared.reply.Reply.TheVariants as reply
 use Rattle.rep_vault.specs.Contents.{Contents}
 use Rattle.rep_model.specs.Places.{opens_at, closes_at}
 use Rattle.rep_model.specs.State.{of, is_region, mark}
+use Rattle.rep_model.specs.Row.{site}
+use Rattle.rep_model.specs.Plan.{Plan}
+use Rattle.rep_model.specs.PlanRows.{marker_plan}
+use Rattle.rep_model.specs.declared.faults.Site.{Site}
 use Rattle.rep_model.specs.declared.machine.Machine.{Machine}
 use Rattle.rep_model.specs.declared.machine.Hosted.{Hosted}
 use Rattle.cluster_core.specs.declared.entering.EntryError.{EntryError}
@@ -32,6 +40,23 @@ ends_at ending.Closes = closes_at
 abbrev pub kind_of : Ending → EntryKind
 kind_of ending.Opens = kind.Opened
 kind_of ending.Closes = kind.Closed
+
+-- where it is then
+abbrev pub ended : Ending → ℕ → PlaceOf
+ended ending.Opens = λ s. place.On s
+ended ending.Closes = λ s. place.Off
+
+-- the calls behind those of the marker
+abbrev pub last_sites : Ending → Cluster → List Site
+last_sites ending.Opens c = []
+last_sites ending.Closes c = site c call.Put ∷ []
+
+abbrev pub ending_event : Ending → Cluster → ℕ → Event
+ending_event ending.Opens c r = event.OpenEnd c r
+ending_event ending.Closes c r = event.CloseEnd c r
+
+abbrev pub ending_plan : Ending → Cluster → ℕ → Machine → Plan
+ending_plan w c r m = marker_plan (ends_at w) (ended w) (kind_of w) (last_sites w c) c r m
 
 -- what is answered where the marker wasn't committed to this log of this server
 abbrev pub unmarked : Cluster → ℕ → ℕ → EntryError → Result Reply CoreError

@@ -3,13 +3,14 @@ ghost use Rattle.std.specs.Prelude.{◌≡◌, Some, true, IfOk, IfErr};
 ghost use Rattle.rep_types.specs.declared.event.Event.TheVariants as event;
 ghost use Rattle.rep_vault.specs.Contents.{Contents};
 ghost use Rattle.rep_model.specs.Calm.{is_calm};
-ghost use Rattle.rep_model.specs.State.{of};
+ghost use Rattle.rep_model.specs.MoreRows.{close_begin_plan};
+ghost use Rattle.rep_model.specs.Path.{refusal_of};
+ghost use Rattle.rep_model.specs.State.{Route, of};
 ghost use Rattle.rep_model.specs.declared.machine.Machine.{Machine};
 ghost use Rattle.cluster_core.specs.Memory.{map_of};
 ghost use Rattle.cluster_core.specs.Stands.{Stands};
 ghost use Rattle.cluster_core.specs.Does.{Reached, Answers};
 ghost use Rattle.region_events.specs.Closing.{IsOn};
-ghost use Rattle.region_events.specs.Refusals.{close_refusal};
 
 use cluster_core::{ClusterCore, CoreError, on_at};
 use rep_types::{PlaceOf, Refusal, RegionId, Reply, ServerId};
@@ -18,7 +19,7 @@ use rep_types::{PlaceOf, Refusal, RegionId, Reply, ServerId};
 fn server_of(core: &ClusterCore, number: RegionId) -> Result<ServerId, Refusal>
     ensures on { IfOk result (λ server. IsOn core.now.map number server) }
     ensures refused { (m : Machine) → core.now.map ≡ map_of (of core.now.own m)
-        → IfErr result (λ why. close_refusal core.now.own number m ≡ Some why) }
+        → IfErr result (λ why. refusal_of (close_begin_plan core.now.own number m) ≡ Some why) }
 {
     let have = match core.map.place(number) {
         Some(have) => have,
@@ -33,8 +34,8 @@ fn server_of(core: &ClusterCore, number: RegionId) -> Result<ServerId, Refusal>
 /// A region that is On a server begins to close there. No store is called: the region's record says where it is, which
 /// stays.
 pub fn close_begin(core: &mut ClusterCore, region: RegionId) -> Result<Reply, CoreError>
-    ensures does { (c : Contents) (m : Machine) → Reached m → Stands core.old.own c core.old (of core.old.own m)
-        → Answers core.old.own (event.CloseBegin core.old.own region) m c core.old c core.new result }
+    ensures does { (way : Route) (c : Contents) (m : Machine) → Reached way m → Stands core.old.own c core.old (of core.old.own m)
+        → Answers way core.old.own (event.CloseBegin core.old.own region) m c core.old c core.new result }
     ensures calm { IfOk result (λ reply. is_calm reply ≡ true) }
 {
     let server = match server_of(core, region) {

@@ -1,15 +1,15 @@
 // Markers of openings and closings, which are appended and synced at once.
-ghost use Rattle.std.specs.Prelude.{◌≡◌, ◌<◌, Some, IfOk, IfSome, MatchResult, length};
+ghost use Rattle.std.specs.Prelude.{◌≡◌, ◌<◌, true, Some, IfOk, IfSome, MatchResult, length};
 ghost use Rattle.rep_types.specs.declared.event.Event.TheVariants as event;
 ghost use Rattle.rep_vault.specs.Contents.{Contents};
-ghost use Rattle.rep_model.specs.State.{of};
+ghost use Rattle.rep_model.specs.State.{Route, of};
+ghost use Rattle.rep_model.specs.Words.{is_in};
 ghost use Rattle.rep_model.specs.Places.{opens_at, closes_at};
-ghost use Rattle.rep_model.specs.Row.{first};
-ghost use Rattle.rep_model.specs.RegionEvents.{marker_refusals};
+ghost use Rattle.rep_model.specs.Path.{refusal_of};
 ghost use Rattle.rep_model.specs.declared.machine.Machine.{Machine};
 ghost use Rattle.cluster_core.specs.Stands.{Stands};
 ghost use Rattle.cluster_core.specs.Does.{Standing, Reached, Answers, Counts, FaultTold};
-ghost use Rattle.region_events.specs.Marks.{ends_at, kind_of, unmarked, HasMarking, IsMarker};
+ghost use Rattle.region_events.specs.Marks.{ends_at, kind_of, ending_plan, unmarked, HasMarking, IsMarker};
 
 use cluster_core::{
     ClusterCore, CoreError, CurrentLog, EntryError, commit_entry, current_log, mark, next_id,
@@ -72,7 +72,7 @@ pub fn marking_at(core: &ClusterCore, number: RegionId, ending: Ending) -> Resul
     ensures within { IfOk result (λ at. at < length core.now.stations) }
     ensures state { (m : Machine) (c : Contents) → Stands core.now.own c core.now (of core.now.own m)
         → MatchResult result (λ at. HasMarking (ends_at ending) core.now.own c core.now.stations number m at)
-        (λ why. first (marker_refusals (ends_at ending) core.now.own number m) ≡ Some why) }
+        (λ why. refusal_of (ending_plan ending core.now.own number m) ≡ Some why) }
 {
     let found = match region(&core.map, number) {
         Some(found) => found,
@@ -127,8 +127,8 @@ pub fn open_end<V: Vault>(
     region: RegionId,
 ) -> Result<Reply, CoreError>
     requires { Standing core.old.own (V.contents own.old) core.old }
-    ensures does { (m : Machine) → Reached m → Stands core.old.own (V.contents own.old) core.old (of core.old.own m)
-        → Answers core.old.own (event.OpenEnd core.old.own region) m (V.contents own.old) core.old (V.contents own.new) core.new result }
+    ensures does { (way : Route) (m : Machine) → Reached way m → is_in way core.old.own ≡ true → Stands core.old.own (V.contents own.old) core.old (of core.old.own m)
+        → Answers way core.old.own (event.OpenEnd core.old.own region) m (V.contents own.old) core.old (V.contents own.new) core.new result }
     ensures counts { Counts (V.tally own.old) (V.tally own.new) }
     ensures told { IfOk result (λ reply. FaultTold core.old.own reply (V.tally own.old) (V.tally own.new)) }
 {

@@ -1,11 +1,14 @@
-ghost use Rattle.std.specs.Prelude.{◌≡◌, ◌-◌, ◌<◌, ◌≤◌, None, Some, IsSome, IfOk, OnOk, length, slice_get};
+ghost use Rattle.std.specs.Prelude.{◌≡◌, ◌-◌, ◌<◌, ◌≤◌, true, None, Some, IsSome, IfOk, OnOk, length, slice_get};
 ghost use Rattle.std.specs.Option.{ForSome};
 ghost use Rattle.rep_vault.specs.Contents.{Contents};
 ghost use Rattle.rep_types.specs.declared.event.Event.TheVariants as event;
 ghost use Rattle.rep_types.specs.declared.state.PlaceOf.TheVariants as place;
 ghost use Rattle.region_barriers.specs.History.{last_barrier};
 ghost use Rattle.region_meta.specs.Regions.{region_of};
-ghost use Rattle.rep_model.specs.State.{of};
+ghost use Rattle.rep_model.specs.MoreRows.{open_begin_plan};
+ghost use Rattle.rep_model.specs.Path.{refusal_of};
+ghost use Rattle.rep_model.specs.State.{Route, of};
+ghost use Rattle.rep_model.specs.Words.{is_in};
 ghost use Rattle.rep_model.specs.Places.{is_off};
 ghost use Rattle.rep_model.specs.RegionEvents.{is_last, with_barrier};
 ghost use Rattle.rep_model.specs.declared.machine.Machine.{Machine};
@@ -17,7 +20,6 @@ ghost use Rattle.cluster_core.specs.Memory.{map_of};
 ghost use Rattle.cluster_core.specs.Stands.{Stands};
 ghost use Rattle.cluster_core.specs.Does.{Standing, Reached, Answers, Counts, FaultTold};
 ghost use Rattle.region_events.specs.Effects.{opened_trace, with_opening, opening_changes, IsPrepared, Reaches};
-ghost use Rattle.region_events.specs.Refusals.{open_refusal};
 
 use cluster_core::{
     ClusterCore, CoreError, Station, Stored, Trace, barriers_change, put_records, region,
@@ -55,7 +57,7 @@ fn lives(stations: &Items<Station>, at: usize) -> bool
 // Why the region doesn't begin to open.
 fn refusal(core: &ClusterCore, number: RegionId, server: ServerId) -> Option<Refusal>
     ensures { (m : Machine) (c : Contents) → core.now.map ≡ map_of (of core.now.own m) → ServersStand c (of core.now.own m) core.now.stations
-        → result ≡ open_refusal core.now.own number server m }
+        → result ≡ refusal_of (open_begin_plan core.now.own number server m) }
 {
     let found = match region(&core.map, number) {
         Some(found) => found,
@@ -192,8 +194,8 @@ pub fn open_begin<V: Vault>(
     server: ServerId,
 ) -> Result<Reply, CoreError>
     requires { Standing core.old.own (V.contents own.old) core.old }
-    ensures does { (m : Machine) → Reached m → Stands core.old.own (V.contents own.old) core.old (of core.old.own m)
-        → Answers core.old.own (event.OpenBegin core.old.own region server) m (V.contents own.old) core.old (V.contents own.new) core.new result }
+    ensures does { (way : Route) (m : Machine) → Reached way m → is_in way core.old.own ≡ true → Stands core.old.own (V.contents own.old) core.old (of core.old.own m)
+        → Answers way core.old.own (event.OpenBegin core.old.own region server) m (V.contents own.old) core.old (V.contents own.new) core.new result }
     ensures counts { Counts (V.tally own.old) (V.tally own.new) }
     ensures told { IfOk result (λ reply. FaultTold core.old.own reply (V.tally own.old) (V.tally own.new)) }
 {

@@ -1,7 +1,11 @@
-ghost use Rattle.std.specs.Prelude.{◌≡◌, ◌+◌, ◌<◌, [], ◌∷◌, None, IfOk, OnOk, length, map};
+ghost use Rattle.std.specs.Prelude.{◌≡◌, ◌+◌, ◌<◌, true, List, [], ◌∷◌, None, IfOk, OnOk, length, map};
 ghost use Rattle.rep_types.specs.declared.event.Event.TheVariants as event;
+ghost use Rattle.rep_types.specs.declared.table.Family.{Family};
 ghost use Rattle.rep_types.specs.declared.state.PlaceOf.TheVariants as place;
-ghost use Rattle.rep_model.specs.State.{of};
+ghost use Rattle.rep_model.specs.MoreRows.{table_plan};
+ghost use Rattle.rep_model.specs.Path.{refusal_of};
+ghost use Rattle.rep_model.specs.State.{Route, of};
+ghost use Rattle.rep_model.specs.Words.{is_in};
 ghost use Rattle.rep_model.specs.declared.machine.Machine.{Machine};
 ghost use Rattle.cluster_core.specs.Texts.{OfTable, OfRegion, OfBarriers, family_text, list_text, region_text, barriers_text};
 ghost use Rattle.cluster_core.specs.Changes.{setting};
@@ -9,9 +13,7 @@ ghost use Rattle.cluster_core.specs.Memory.{map_of, IndexStands};
 ghost use Rattle.cluster_core.specs.Stands.{Stands};
 ghost use Rattle.cluster_core.specs.Does.{Standing, Reached, Answers, Counts, FaultTold};
 ghost use Rattle.region_events.specs.Effects.{with_table};
-ghost use Rattle.region_events.specs.Refusals.{table_refusal};
 
-use table_cells::CellStore;
 use cluster_core::{
     ClusterCore, CoreError, Stored, TableCells, Trace, barriers_change, families, put_records,
     region_change, table_change,
@@ -23,11 +25,12 @@ use rep_types::{
 };
 use rep_vault::{Change, Vault};
 use std::alloc::Global;
+use table_cells::CellStore;
 
 // Why the table isn't made. Where it is, there is a number for its region.
 fn refusal(core: &ClusterCore, name: &Name) -> Option<Refusal>
-    ensures first { (m : Machine) → core.now.map ≡ map_of (of core.now.own m) → IndexStands core.now.index (of core.now.own m)
-        → result ≡ table_refusal core.now.own name.now m }
+    ensures first { (families : List Family) (m : Machine) → core.now.map ≡ map_of (of core.now.own m) → IndexStands core.now.index (of core.now.own m)
+        → result ≡ refusal_of (table_plan core.now.own name.now families m) }
     ensures room { result ≡ None → length core.now.index.traces < 4096 }
 {
     match families(&core.map, name) {
@@ -113,8 +116,8 @@ pub fn table<V: Vault>(
     families: Families,
 ) -> Result<Reply, CoreError>
     requires { Standing core.old.own (V.contents own.old) core.old }
-    ensures does { (m : Machine) → Reached m → Stands core.old.own (V.contents own.old) core.old (of core.old.own m)
-        → Answers core.old.own (event.Table core.old.own name families) m (V.contents own.old) core.old (V.contents own.new) core.new result }
+    ensures does { (way : Route) (m : Machine) → Reached way m → is_in way core.old.own ≡ true → Stands core.old.own (V.contents own.old) core.old (of core.old.own m)
+        → Answers way core.old.own (event.Table core.old.own name families) m (V.contents own.old) core.old (V.contents own.new) core.new result }
     ensures counts { Counts (V.tally own.old) (V.tally own.new) }
     ensures told { IfOk result (λ reply. FaultTold core.old.own reply (V.tally own.old) (V.tally own.new)) }
 {

@@ -1,16 +1,11 @@
--- Why events of peers change nothing, by memory: the first test that holds.
-use Rattle.std.specs.Prelude.{ℕ, ◌==◌, ◌&&◌, ◌||◌, not, Bool, List, [], ◌∷◌, Option, find, is_some, is_none}
+-- Tables that a peer names, by the maps of its cluster and of the destination.
+use Rattle.std.specs.Prelude.{ℕ, ◌==◌, ◌&&◌, ◌||◌, not, Bool, List, Option, is_none}
 use Rattle.std.specs.List.{list_any}
 use Rattle.std.specs.Option.{option_map}
 use Rattle.std.specs.Str.{bytes_eq}
 use Rattle.rep_types.specs.declared.table.Family.{Family}
-use Rattle.rep_types.specs.declared.refusal.Refusal.{Refusal}
-use Rattle.rep_types.specs.declared.refusal.Refusal.TheVariants as refusal
 use Rattle.region_meta.specs.Regions.{Table, Map, table_of}
 use Rattle.rep_model.specs.Keyed.{if_some}
-use Rattle.rep_model.specs.Row.{first}
-use Rattle.cluster_core.specs.declared.parts.PeerLine.{PeerLine}
-use Rattle.cluster_core.specs.Lookups.{is_peer_line}
 
 abbrev pub families_of : List ℕ → Map → Option (List Family)
 families_of name m = option_map (λ (t : Table). t.families) (table_of name m)
@@ -19,17 +14,8 @@ families_of name m = option_map (λ (t : Table). t.families) (table_of name m)
 abbrev pub families_lack : List Family → List Family → Bool
 families_lack from to = list_any (λ (f : Family). (f.scope == 1) && not (list_any (λ (g : Family). bytes_eq g.name f.name) to)) from
 
--- of the maps of both clusters
 abbrev pub lacks_table : Map → Map → List ℕ → Bool
 lacks_table from to table = is_none (families_of table from) || is_none (families_of table to)
 
 abbrev pub table_lacks_family : Map → Map → List ℕ → Bool
 table_lacks_family from to table = if_some (families_of table from) (λ fs. if_some (families_of table to) (families_lack fs))
-
--- of a peer that keeps no order and no remote logs
-abbrev pub peer_refusal : ℕ → List (List ℕ) → List PeerLine → Map → Map → Option Refusal
-peer_refusal p tables peers from to = first (
-    (is_some (find (is_peer_line p) peers), refusal.Exists)
-    ∷ (list_any (lacks_table from to) tables, refusal.NoTable)
-    ∷ (list_any (table_lacks_family from to) tables, refusal.NoFamily)
-    ∷ [])
