@@ -6,3 +6,4 @@ pub mod Planning
 pub mod Printing
 pub mod Scripted
 pub mod Serving
+pub mod Told

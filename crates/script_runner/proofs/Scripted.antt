@@ -15,7 +15,8 @@ use Rattle.rep_types.specs.declared.table.Family.{Family}
 use Rattle.rep_types.specs.declared.state.Kind.{Kind}
 use Rattle.rep_types.specs.declared.state.Kind.TheVariants.{Plain, Serial, Synchronous}
 use Rattle.rep_types.specs.Edit.{repeats, same_column}
-use Rattle.rep_model.specs.Words.{is_paired, is_value, is_between, are_cells, are_names, are_families, repeats_name}
+use Rattle.rep_model.specs.State.{Pair}
+use Rattle.rep_model.specs.Words.{is_paired, is_kind, is_value, is_between, are_cells, are_names, are_families, repeats_name}
 use Rattle.script_text.specs.declared.cells.Content.{Content}
 use Rattle.script_text.specs.declared.cells.Content.TheVariants as content
 use Rattle.script_text.specs.declared.cells.Dated.{Dated}
@@ -31,6 +32,8 @@ use Rattle.script_text.specs.declared.head.OnServer.{OnServer}
 use Rattle.script_text.specs.declared.head.OnServer.TheVariants as server_word
 use Rattle.script_text.specs.declared.head.OnRegion.{OnRegion}
 use Rattle.script_text.specs.declared.head.OnRegion.TheVariants as region_word
+use Rattle.script_text.specs.declared.head.OnQueue.{OnQueue}
+use Rattle.script_text.specs.declared.head.OnQueue.TheVariants as queue_word
 use Rattle.script_text.specs.declared.head.OnPlace.{OnPlace}
 use Rattle.script_text.specs.declared.head.OnPlace.TheVariants as place_word
 use Rattle.script_text.specs.declared.head.OnFlight.{OnFlight}
@@ -50,8 +53,8 @@ use Rattle.pair_core.specs.Served as pair
 use Rattle.script_text.specs.Heads.{head_of, is_barred, is_performed, is_performed_kind}
 use Rattle.script_text.specs.Lines.{begins_with}
 use Rattle.script_text.specs.Lists.{all_of, parts_of, scope_of, family_of, repeats_family, are_tables, tables_word, specs_word}
-use Rattle.script_text.specs.Makings.{cluster_command, server_command, region_command, place_command}
-use Rattle.script_text.specs.Meanings.{cluster_alone, cluster_and_one, cluster_and_two, cluster_and_three, some_words, cluster_and_some, alone, on_cluster, on_server, on_region, on_place, on_flight, ship, send, fail, keep, table, get, show, performed_kind, peer}
+use Rattle.script_text.specs.Makings.{cluster_command, server_command, region_command, queue_command, place_command}
+use Rattle.script_text.specs.Meanings.{cluster_alone, cluster_and_one, cluster_and_two, cluster_and_three, some_words, cluster_and_some, alone, on_cluster, on_server, on_region, on_queue, on_place, on_flight, send, fail, keep, table, get, show, performed_kind, peer}
 use Rattle.script_text.specs.Puts.{put_words, cluster_and_cells, put}
 use Rattle.script_text.specs.Steps.{◌>>=◌, and_then}
 use Rattle.script_text.specs.Words.{has_word, words_of, one_word, two_words, three_words, four_words}
@@ -375,13 +378,17 @@ flight-served flight_word.Confirm args c p h =
     ap served_in (sym t.2) ∙ (and_parts (nat_le 1 t.0) (nat_le t.0 4294967295) (word-within 1 4294967295 s.0 t.0 t.1)).0
 flight-served _ args c p h = absurd (cc p)
 
-ship-served : (args : List (List ℕ)) (c : Command) → ship args ≡ Ok c → is_served c ≡ true
-unfolding ship
-ship-served args c h =
+queue-is : (word : OnQueue) → is_performed (head.OnQueue word) ≡ true → (c : Cluster) (p s : ℕ) → is_served (queue_command word c p s) ≡ is_paired c
+queue-is queue_word.Ship h c p s = refl
+queue-is queue_word.Migrate h c p s = absurd (cc h)
+
+queue-served : (word : OnQueue) (args : List (List ℕ)) (c : Command) → is_performed (head.OnQueue word) ≡ true → on_queue word args ≡ Ok c → is_served c ≡ true
+unfolding on_queue
+queue-served word args c p h =
     let s = step-ok (cluster_and_two args) _ c h in
     let t = step-ok (number_word 1 4 s.0.1) _ c s.2 in
     let u = step-ok (number_word 1 64 s.0.2) _ c t.2 in
-    ap served_in (sym u.2) ∙ two-paired args s.0 s.1
+    ap served_in (sym u.2) ∙ queue-is word p s.0.0 t.0 u.0 ∙ two-paired args s.0 s.1
 
 send-served : (args : List (List ℕ)) (c : Command) → send args ≡ Ok c → is_served c ≡ true
 unfolding send
@@ -443,6 +450,12 @@ word-plain w k h =
     let t = if-ok (is_performed_kind s.0) s.0 rule.Words k s.2 in
     subst (λ (x : Kind). pair.is_plain x ≡ true) t.1 (kind-plain s.0 t.0)
 
+-- a pair has peers of all kinds
+kind-worded : (k : Kind) → is_kind Pair k ≡ true
+kind-worded Plain = refl
+kind-worded Serial = refl
+kind-worded Synchronous = refl
+
 peer-served : (args : List (List ℕ)) (c : Command) → peer args ≡ Ok c → is_served c ≡ true
 unfolding peer
 peer-served args c h =
@@ -450,7 +463,7 @@ peer-served args c h =
     let t = step-ok (number_word 1 4 s.0.1) _ c s.2 in
     let u = step-ok (performed_kind s.0.2) _ c t.2 in
     let v = step-ok (tables_word s.0.3) _ c u.2 in
-    ap served_in (sym v.2) ∙ and-true _ _ (word-plain s.0.2 u.0 u.1) (and-true _ _ (three-paired args s.0 s.1) (tables-named s.0.3 v.0 v.1))
+    ap served_in (sym v.2) ∙ and-true _ _ (word-plain s.0.2 u.0 u.1) (and-true _ _ (three-paired args s.0 s.1) (and-true _ _ (kind-worded u.0) (tables-named s.0.3 v.0 v.1)))
 
 -- a line's command, where it has one
 abbrev option_served : Option Command → Bool
@@ -491,6 +504,7 @@ meaning-served repeated (head.OnCluster word) args made p i h = command-served r
 meaning-served repeated (head.OnServer word) args made p i h = command-served repeated _ made (λ c g. server-served word args c p g) h
 meaning-served repeated (head.OnRegion word) args made p i h = command-served repeated _ made (λ c g. region-served word args c p g) h
 meaning-served repeated (head.OnPeer word) args made p i h = absurd (cc p)
+meaning-served repeated (head.OnQueue word) args made p i h = command-served repeated _ made (λ c g. queue-served word args c p g) h
 meaning-served repeated (head.OnPlace word) args made p i h = command-served repeated _ made (λ c g. place-served word args c g) h
 meaning-served repeated (head.OnFlight word) args made p i h = command-served repeated _ made (λ c g. flight-served word args c p g) h
 meaning-served repeated (head.Alone word) args made p i h = command-served repeated _ made (λ c g. alone-served word args c p i g) h
@@ -501,7 +515,6 @@ meaning-served repeated head.Show args made p i h = command-served repeated _ ma
 meaning-served repeated head.Split args made p i h = absurd (cc p)
 meaning-served repeated head.Merge args made p i h = absurd (cc p)
 meaning-served repeated head.Peer args made p i h = command-served repeated _ made (λ c g. peer-served args c g) h
-meaning-served repeated head.Ship args made p i h = command-served repeated _ made (λ c g. ship-served args c g) h
 meaning-served repeated head.Send args made p i h = command-served repeated _ made (λ c g. send-served args c g) h
 meaning-served repeated head.Claim args made p i h = absurd (cc p)
 meaning-served repeated head.TransitBegin args made p i h = absurd (cc p)

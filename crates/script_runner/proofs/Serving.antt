@@ -9,6 +9,7 @@ use Rattle.rep_types.specs.declared.event.Event.TheVariants as event
 use Rattle.rep_types.specs.declared.record.Record.{Record}
 use Rattle.rep_types.specs.declared.reply.Reply.{Reply}
 use Rattle.rep_types.specs.declared.reply.Reply.TheVariants as reply
+use Rattle.rep_model.specs.State.{Pair}
 use Rattle.rep_model.specs.Words.{is_paired, is_worded}
 use Rattle.rep_model.specs.declared.machine.Machine.{Machine}
 use Rattle.pair_core.specs.Served as pair
@@ -22,7 +23,7 @@ use Rattle.script_runner.specs.Served.{is_served}
 
 -- an event that the pair takes
 abbrev pub IsTaken : Event → Type 0
-IsTaken e = (pair.is_served e ≡ true) × (is_worded e ≡ true)
+IsTaken e = (pair.is_served e ≡ true) × (is_worded Pair e ≡ true)
 
 abbrev event_or : Event → Option Event → Event
 event_or e None = e
@@ -56,7 +57,7 @@ flight-taken make _ e taken h = absurd (cc h)
 
 -- each event of a served command is one that the pair takes
 pub event-taken : (c : Command) (m : Machine) (rs : List Record) (e : Event) → is_served c ≡ true → due c m rs ≡ Some e → IsTaken e
-event-taken (command.Single x) m [] e served h = taken-some x e h (and_parts (pair.is_served x) (is_worded x) served)
+event-taken (command.Single x) m [] e served h = taken-some x e h (and_parts (pair.is_served x) (is_worded Pair x) served)
 event-taken (command.Single x) m (r ∷ rs) e served h = absurd (cc h)
 event-taken (command.Open c r s) m [] e served h = taken-some _ e h (refl, served)
 event-taken (command.Open c r s) m (x ∷ []) e served h = taken-only (passes x.reply) _ e h (λ y g. taken-some _ y g (refl, served))

@@ -4,4 +4,5 @@ pub mod Lawful
 pub mod Plans
 pub mod Ran
 pub mod Served
+pub mod Told
 pub mod Underway

@@ -2,7 +2,6 @@
 ghost use Rattle.std.specs.Prelude.{◌≡◌, ◌+◌, ◌++◌, ◌∷◌, ◌<◌, ◌≤◌, [], List, false, true, filter, length, map, IfOk, IfSome, OnOk};
 ghost use Rattle.rep_types.specs.declared.record.Record.{Record};
 ghost use Rattle.rep_model.specs.Runs.{state_of};
-ghost use Rattle.rep_model.specs.Words.{is_paired};
 ghost use Rattle.rep_model.specs.declared.machine.Machine.{Machine};
 ghost use Rattle.script_text.specs.Drains.{lives, live_servers};
 ghost use Rattle.script_text.specs.Due.{reply_in, due};
@@ -32,7 +31,6 @@ fn add_live<V: Vault>(
     server: ServerId,
     live: &mut ServerSet,
 ) -> Result<(), Memory>
-    requires paired { is_paired cluster ≡ true }
     requires usable { pair.now.spent ≡ false }
     ensures added { OnOk result (live.new ≡ live.old ++ filter (lives cluster (state_of pair.now.journal)) (server ∷ [])) }
     ensures few { length live.new ≤ length live.old + 1 }
@@ -50,7 +48,6 @@ fn live_servers<V: Vault>(
     pair: &Pair<V>,
     cluster: Cluster,
 ) -> Result<ServerSet, Memory>
-    requires paired { is_paired cluster ≡ true }
     requires usable { pair.now.spent ≡ false }
     ensures live { IfOk result (λ live. live ≡ live_servers cluster (state_of pair.now.journal)) }
     ensures few { IfOk result (λ live. length live ≤ 64) }
@@ -68,7 +65,6 @@ pub fn asked_servers<V: Vault>(
     pair: &Pair<V>,
     command: &Command,
 ) -> Result<ServerSet, Memory>
-    requires served { is_served command.now ≡ true }
     requires usable { pair.now.spent ≡ false }
     ensures asked { IfOk result (λ live. live ≡ asked command.now (state_of pair.now.journal)) }
     ensures few { IfOk result (λ live. length live ≤ 64) }

@@ -1,6 +1,7 @@
 ghost use Rattle.std.specs.Prelude.{◌≡◌, true, IfOk};
 ghost use Rattle.rep_vault.specs.Contents.{new_contents};
 ghost use Rattle.rep_vault.specs.Memory.{contents_of};
+ghost use Rattle.rep_model.specs.State as state;
 ghost use Rattle.rep_model.specs.Words.{is_paired, is_worded, are_families, are_names, are_cells};
 ghost use Rattle.pair_core.specs.Served.{is_served};
 
@@ -83,7 +84,7 @@ fn cells(alloc: Global) -> Result<Cells, Fail>
 
 fn steps(alloc: Global, pair: &mut Pair<MemVault>, event: Event) -> Result<(), Fail>
     requires served { is_served event ≡ true }
-    requires worded { is_worded event ≡ true }
+    requires worded { is_worded state.Pair event ≡ true }
 {
     pair.step(alloc, event, 0)?;
     Ok(())
