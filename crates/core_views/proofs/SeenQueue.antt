@@ -9,8 +9,8 @@ use Rattle.rep_vault.specs.Contents.{Contents}
 use Rattle.rep_model.specs.Keyed.{given}
 use Rattle.rep_model.specs.Peers.{is_removed}
 use Rattle.rep_model.specs.Queues.{queue}
-use Rattle.rep_model.specs.State.{of, is_server, is_peer, is_queue}
-use Rattle.rep_model.specs.Words.{is_paired}
+use Rattle.rep_model.specs.State.{Route, of, is_server, is_peer, is_queue}
+use Rattle.rep_model.specs.Words.{is_in}
 use Rattle.rep_model.specs.declared.machine.Machine.{Machine}
 use Rattle.rep_model.specs.declared.machine.Peer.{Peer}
 use Rattle.rep_model.specs.declared.machine.Queue.{Queue}
@@ -55,11 +55,11 @@ unremoved None x e = absurd (none-some x e)
 unremoved (Some y) x e = cond_both (is_removed y.standing) None (Some y) (λ w. w ≡ Some x → Some y ≡ Some x) (λ _ s. absurd (none-some x s)) (λ _ s. s) e
 
 -- the server of a queue stands
-queue_server : (own : Cluster) → is_paired own ≡ true → (m : Machine) → Reached m → (q : Queue) → In q (of own m).queues → (v : Server) × (find (is_server q.server) (of own m).servers ≡ Some v)
-queue_server own pair m (journal, legal, is) =
-    subst (λ (k : Machine). (q : Queue) → In q (of own k).queues → (v : Server) × (find (is_server q.server) (of own k).servers ≡ Some v)) is (queue_server_stands journal legal own pair)
+queue_server : (way : Route) (own : Cluster) → is_in way own ≡ true → (m : Machine) → Reached way m → (q : Queue) → In q (of own m).queues → (v : Server) × (find (is_server q.server) (of own m).servers ≡ Some v)
+queue_server way own pair m reached =
+    subst (λ (k : Machine). (q : Queue) → In q (of own k).queues → (v : Server) × (find (is_server q.server) (of own k).servers ≡ Some v)) reached.leads (queue_server_stands way reached.steps reached.legal own pair)
 
-module _ (own : Cluster) (c : Contents) (core : ClusterCore) (m : Machine) (reached : Reached m) (stands : Stands own c core (of own m)) (p s : ℕ) where
+module _ (way : Route) (own : Cluster) (c : Contents) (core : ClusterCore) (m : Machine) (reached : Reached way m) (here : is_in way own ≡ true) (stands : Stands own c core (of own m)) (p s : ℕ) where
   abbrev side : Side
   side = of own m
 
@@ -68,7 +68,7 @@ module _ (own : Cluster) (c : Contents) (core : ClusterCore) (m : Machine) (reac
       let both = and_parts (l.peer == p) (l.server == s) (found_passes (is_line p s) core.lines l e) in
       let peer : l.peer ≡ p = eqb-true l.peer p both.0 in
       let there : find (is_queue p s) side.queues ≡ Some (queue_of_line l) = queue_found core side p s stands.queues ∙ ap (option_map queue_of_line) e in
-      let v = queue_server own stands.paired m reached (queue_of_line l) (found_in (is_queue p s) side.queues (queue_of_line l) there) in
+      let v = queue_server way own here m reached (queue_of_line l) (found_in (is_queue p s) side.queues (queue_of_line l) there) in
       view_is side l core.index.shelves x v.0 stands.index.shelves (All_found (IsAt side) (is_line p s) core.lines l e stands.queues.at)
       (ap (λ n. find (is_peer n) side.peers) peer ∙ known) v.1
 

@@ -1,5 +1,5 @@
 -- What memory says of a region, and of how many there are, is what the state says.
-use Rattle.std.proofs.Common.{ℕ, suc, ◌-◌, ◌<◌, ◌≤◌, ◌≡◌, find, length, slice_get, Some, None, ap, sym, ◌∙◌, arith, eqb-true}
+use Rattle.std.proofs.Common.{ℕ, suc, ◌-◌, ◌<◌, ◌≤◌, ◌≡◌, true, find, length, slice_get, Some, None, ap, sym, ◌∙◌, arith, eqb-true}
 use Rattle.std.specs.Option.{option_map}
 use Rattle.std.proofs.lemmas.List.{length-map}
 use Rattle.std.proofs.lemmas.Option.{none-some, same_Some, slice_get_past}
@@ -8,7 +8,8 @@ use Rattle.rep_types.specs.declared.view.RegionLine.{RegionLine}
 use Rattle.rep_vault.specs.Contents.{Contents}
 use Rattle.region_meta.specs.Regions.{Map}
 use Rattle.region_meta.specs.declared.region.Region.{Region}
-use Rattle.rep_model.specs.State.{of, is_region}
+use Rattle.rep_model.specs.State.{Route, of, is_region}
+use Rattle.rep_model.specs.Words.{is_in}
 use Rattle.rep_model.specs.declared.machine.Hosted.{Hosted}
 use Rattle.rep_model.specs.declared.machine.Machine.{Machine}
 use Rattle.rep_model.specs.declared.machine.Side.{Side}
@@ -29,12 +30,12 @@ use Rattle.core_views.specs.Views.{region_view, region_seen}
 pub counted : (own : Cluster) (c : Contents) (core : ClusterCore) (side : Side) → Stands own c core side → (count : ℕ) → count ≡ length core.map.regions → count ≡ length side.regions
 counted own c core side stands count e = e ∙ (ap (λ (k : Map). length k.regions) stands.regions ∙ length-map side.regions map_region)
 
-module _ (own : Cluster) (c : Contents) (core : ClusterCore) (m : Machine) (reached : Reached m) (stands : Stands own c core (of own m)) (n : ℕ) where
+module _ (way : Route) (own : Cluster) (c : Contents) (core : ClusterCore) (m : Machine) (reached : Reached way m) (here : is_in way own ≡ true) (stands : Stands own c core (of own m)) (n : ℕ) where
   abbrev side : Side
   side = of own m
 
   slots : AreNumbered side.regions
-  slots = (orderly own stands.paired m reached).numbered
+  slots = (orderly own here m reached).numbered
 
   -- a region that stands has a trace
   traced : (h : Hosted) → find (is_region n) side.regions ≡ Some h → slice_get core.index.traces (n - 1) ≡ Some (trace_of side.commits side.servers h)

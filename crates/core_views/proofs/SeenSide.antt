@@ -7,8 +7,8 @@ use Rattle.std.proofs.lemmas.List.Sums.{sum_by-cons}
 use Rattle.rep_types.specs.declared.ids.Cluster.{Cluster}
 use Rattle.rep_types.specs.declared.state.SyncState.TheVariants.{Absent}
 use Rattle.rep_vault.specs.Contents.{Contents}
-use Rattle.rep_model.specs.State.{of, is_server}
-use Rattle.rep_model.specs.Words.{is_paired}
+use Rattle.rep_model.specs.State.{Route, of, is_server}
+use Rattle.rep_model.specs.Words.{is_in}
 use Rattle.rep_model.specs.declared.machine.Commit.{Commit}
 use Rattle.rep_model.specs.declared.machine.Link.{Link}
 use Rattle.rep_model.specs.declared.machine.Machine.{Machine}
@@ -97,10 +97,10 @@ all_stand vs d (x ∷ xs) h =
     let v = h x (inl refl) in
     sum_more x xs vs ∙ ((λ i. one_has x.server vs v.0 v.1 d i + all_stand vs d xs (λ y j. h y (inr j)) i) ∙ sym (more (length xs)))
 
-commit_server : (own : Cluster) → is_paired own ≡ true → (m : Machine) → Reached m → (x : Commit) → In x (of own m).commits → (v : Server) × (find (is_server x.server) (of own m).servers ≡ Some v)
-commit_server own pair m (journal, legal, is) =
-    subst (λ (k : Machine). (x : Commit) → In x (of own k).commits → (v : Server) × (find (is_server x.server) (of own k).servers ≡ Some v)) is
-    (λ x i. let w = commits_are_in_logs journal legal own pair x i in (w.0, w.1))
+commit_server : (way : Route) (own : Cluster) → is_in way own ≡ true → (m : Machine) → Reached way m → (x : Commit) → In x (of own m).commits → (v : Server) × (find (is_server x.server) (of own m).servers ≡ Some v)
+commit_server way own pair m reached =
+    subst (λ (k : Machine). (x : Commit) → In x (of own k).commits → (v : Server) × (find (is_server x.server) (of own k).servers ≡ Some v)) reached.leads
+    (λ x i. let w = commits_are_in_logs way reached.steps reached.legal own pair x i in (w.0, w.1))
 
 -- ---- servers
 
@@ -109,14 +109,14 @@ same_filter p q h xs = λ i. filter (λ s. h s i) xs
 
 -- ---- the whole
 
-module _ (own : Cluster) (c : Contents) (core : ClusterCore) (m : Machine) (reached : Reached m) (stands : Stands own c core (of own m)) where
+module _ (way : Route) (own : Cluster) (c : Contents) (core : ClusterCore) (m : Machine) (reached : Reached way m) (here : is_in way own ≡ true) (stands : Stands own c core (of own m)) where
   abbrev side : Side
   side = of own m
 
   total : kept_total core.index.shelves ≡ length side.commits
   total =
       ap (λ (xs : List Shelf). kept_total xs) stands.index.shelves
-      ∙ (kept_all side.commits side.servers ∙ all_stand side.servers (orderly own stands.paired m reached).servers_differ side.commits (commit_server own stands.paired m reached))
+      ∙ (kept_all side.commits side.servers ∙ all_stand side.servers (orderly own here m reached).servers_differ side.commits (commit_server way own here m reached))
 
   live : live_stations core.stations ≡ live_servers side
   live = same_filter (λ s. lives s core.stations) (lives_in side) (λ s. lookups.lives_is c side s (find (is_station s) core.stations) (find (is_server s) side.servers) (stands.servers s)) (numbers 64)

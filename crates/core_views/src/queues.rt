@@ -1,7 +1,8 @@
 // What is seen of a queue.
-ghost use Rattle.std.specs.Prelude.{◌≡◌, ◌-◌};
+ghost use Rattle.std.specs.Prelude.{◌≡◌, ◌-◌, true};
 ghost use Rattle.rep_vault.specs.Contents.{Contents};
-ghost use Rattle.rep_model.specs.State.{of};
+ghost use Rattle.rep_model.specs.State.{Route, of};
+ghost use Rattle.rep_model.specs.Words.{is_in};
 ghost use Rattle.rep_model.specs.declared.machine.Machine.{Machine};
 ghost use Rattle.cluster_core.specs.Does.{Reached};
 ghost use Rattle.cluster_core.specs.Lines.{shelf_length};
@@ -46,7 +47,8 @@ fn line_seen(core: &ClusterCore, peer: PeerId, server: ServerId) -> Option<Queue
 /// outstanding flight. None where the peer wasn't added or is removed, or has no such queue. It
 /// costs the search for them.
 pub fn queue_view(core: &ClusterCore, peer: PeerId, server: ServerId) -> Option<QueueView>
-    ensures seen { (c : Contents) (m : Machine) → Reached m → Stands core.now.own c core.now (of core.now.own m)
+    ensures seen { (way : Route) (c : Contents) (m : Machine) → Reached way m → is_in way core.now.own ≡ true
+        → Stands core.now.own c core.now (of core.now.own m)
         → result ≡ queue_seen peer server (of core.now.own m) }
 {
     line_seen(core, peer, server)

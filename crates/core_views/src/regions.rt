@@ -1,7 +1,8 @@
 // What is seen of a region.
-ghost use Rattle.std.specs.Prelude.{◌≡◌, ℕ, ◌<◌, None, length, IfOk};
+ghost use Rattle.std.specs.Prelude.{◌≡◌, ℕ, ◌<◌, true, None, length, IfOk};
 ghost use Rattle.rep_vault.specs.Contents.{Contents};
-ghost use Rattle.rep_model.specs.State.{of};
+ghost use Rattle.rep_model.specs.State.{Route, of};
+ghost use Rattle.rep_model.specs.Words.{is_in};
 ghost use Rattle.rep_model.specs.declared.machine.Machine.{Machine};
 ghost use Rattle.cluster_core.specs.Does.{Reached};
 ghost use Rattle.cluster_core.specs.Stands.{Stands};
@@ -51,7 +52,8 @@ pub fn region_line(
     alloc: Global,
     number: RegionId,
 ) -> Result<Option<RegionLine>, Memory>
-    ensures seen { (c : Contents) (m : Machine) → Reached m → Stands core.now.own c core.now (of core.now.own m)
+    ensures seen { (way : Route) (c : Contents) (m : Machine) → Reached way m → is_in way core.now.own ≡ true
+        → Stands core.now.own c core.now (of core.now.own m)
         → IfOk result (λ line. line ≡ region_seen core.now.own number (of core.now.own m)) }
 {
     match region(&core.map, number) {
@@ -65,9 +67,11 @@ pub fn region_line(
 
 /// How many regions there are, those that are Gone too: they have the numbers from 1 on.
 pub fn region_count(core: &ClusterCore) -> usize
-    ensures count { (c : Contents) (m : Machine) → Reached m → Stands core.now.own c core.now (of core.now.own m)
+    ensures count { (way : Route) (c : Contents) (m : Machine) → Reached way m → is_in way core.now.own ≡ true
+        → Stands core.now.own c core.now (of core.now.own m)
         → result ≡ length (of core.now.own m).regions }
-    ensures above { (c : Contents) (m : Machine) → Reached m → Stands core.now.own c core.now (of core.now.own m)
+    ensures above { (way : Route) (c : Contents) (m : Machine) → Reached way m → is_in way core.now.own ≡ true
+        → Stands core.now.own c core.now (of core.now.own m)
         → (r : ℕ) → result < r → region_seen core.now.own r (of core.now.own m) ≡ None }
 {
     core.map.regions().len()

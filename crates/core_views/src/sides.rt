@@ -1,7 +1,8 @@
 // What is seen of the whole.
-ghost use Rattle.std.specs.Prelude.{◌≡◌, ◌+◌, ◌++◌, ◌∷◌, ◌<◌, [], filter, IfOk, OnOk};
+ghost use Rattle.std.specs.Prelude.{◌≡◌, ◌+◌, ◌++◌, ◌∷◌, ◌<◌, [], true, filter, IfOk, OnOk};
 ghost use Rattle.rep_vault.specs.Contents.{Contents};
-ghost use Rattle.rep_model.specs.State.{of};
+ghost use Rattle.rep_model.specs.State.{Route, of};
+ghost use Rattle.rep_model.specs.Words.{is_in};
 ghost use Rattle.rep_model.specs.declared.machine.Machine.{Machine};
 ghost use Rattle.cluster_core.specs.Does.{Reached};
 ghost use Rattle.cluster_core.specs.Lines.{lives};
@@ -68,7 +69,8 @@ fn core_view(core: &ClusterCore, alloc: Global) -> Result<SideLine, Memory>
 /// The cluster in the status line: how many commits it has, its live servers by number, and the
 /// state of its synchronous peer, which is Absent. It costs a search for each of 64 servers.
 pub fn side_line(core: &ClusterCore, alloc: Global) -> Result<SideLine, Memory>
-    ensures seen { (c : Contents) (m : Machine) → Reached m → Stands core.now.own c core.now (of core.now.own m)
+    ensures seen { (way : Route) (c : Contents) (m : Machine) → Reached way m → is_in way core.now.own ≡ true
+        → Stands core.now.own c core.now (of core.now.own m)
         → IfOk result (λ line. line ≡ side_view (of core.now.own m)) }
 {
     core_view(core, alloc)

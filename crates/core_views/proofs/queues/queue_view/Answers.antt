@@ -3,4 +3,4 @@ use Rattle.core_views.proofs.SeenQueue.{line_is_queue}
 use Rattle.core_views.proofs.queues.queue_view.Goals as goal
 
 pub returns : goal.returns
-returns c = record { seen = λ k m reached stands. c.line_seen.ensures ∙ line_is_queue c.args.core.now.own k c.args.core.now m reached stands c.args.peer c.args.server }
+returns c = record { seen = λ way k m reached here stands. c.line_seen.ensures ∙ line_is_queue way c.args.core.now.own k c.args.core.now m reached here stands c.args.peer c.args.server }

@@ -6,6 +6,6 @@ use Rattle.core_views.proofs.regions.region_count.Goals as goal
 
 pub returns : goal.returns
 returns c = record {
-  count = λ k m reached stands. counted c.args.core.now.own k c.args.core.now (of c.args.core.now.own m) stands _ (ap (λ (xs : List Region). length xs) c.regions.ensures);
-  above = λ k m reached stands r above. none_above c.args.core.now.own k c.args.core.now m reached stands r _ (ap (λ (xs : List Region). length xs) c.regions.ensures) above;
+  count = λ way k m reached here stands. counted c.args.core.now.own k c.args.core.now (of c.args.core.now.own m) stands _ (ap (λ (xs : List Region). length xs) c.regions.ensures);
+  above = λ way k m reached here stands r above. none_above way c.args.core.now.own k c.args.core.now m reached here stands r _ (ap (λ (xs : List Region). length xs) c.regions.ensures) above;
 }

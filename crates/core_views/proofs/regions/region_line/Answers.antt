@@ -4,13 +4,13 @@ use Rattle.core_views.proofs.regions.region_line.Goals as goal
 
 pub returns-in-None-trace : goal.returns-in-None-trace
 returns-in-None-trace c = record {
-  seen = λ k m reached stands.
-      has_trace c.args.core.now.own k c.args.core.now m reached stands c.args.number c.in-Some.found.now (c.in-Some.ensures (of c.args.core.now.own m) stands.regions) c.in-None-trace.ensures;
+  seen = λ way k m reached here stands.
+      has_trace way c.args.core.now.own k c.args.core.now m reached here stands c.args.number c.in-Some.found.now (c.in-Some.ensures (of c.args.core.now.own m) stands.regions) c.in-None-trace.ensures;
 }
 
 pub returns-in_ok-traced_view-in-Some-trace : goal.returns-in_ok-traced_view-in-Some-trace
 returns-in_ok-traced_view-in-Some-trace c = record {
-  seen = λ k m reached stands.
-      traced_is_seen c.args.core.now.own k c.args.core.now m reached stands c.args.number c.in-Some.found.now c.in-Some-trace.trace.now _ (c.in-Some.ensures (of c.args.core.now.own m) stands.regions) c.in-Some-trace.ensures
+  seen = λ way k m reached here stands.
+      traced_is_seen way c.args.core.now.own k c.args.core.now m reached here stands c.args.number c.in-Some.found.now c.in-Some-trace.trace.now _ (c.in-Some.ensures (of c.args.core.now.own m) stands.regions) c.in-Some-trace.ensures
       c.in_ok-traced_view-in-Some-trace.ensures;
 }

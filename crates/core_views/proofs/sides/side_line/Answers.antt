@@ -5,5 +5,5 @@ use Rattle.core_views.proofs.sides.side_line.Goals as goal
 
 pub returns : goal.returns
 returns c = record {
-  seen = λ k m reached stands. subst (λ (w : SideLine). IfOk c.core_view.result (λ line. line ≡ w)) (core_is_side c.args.core.now.own k c.args.core.now m reached stands) c.core_view.ensures;
+  seen = λ way k m reached here stands. subst (λ (w : SideLine). IfOk c.core_view.result (λ line. line ≡ w)) (core_is_side way c.args.core.now.own k c.args.core.now m reached here stands) c.core_view.ensures;
 }
