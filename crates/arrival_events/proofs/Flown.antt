@@ -15,11 +15,10 @@ use Rattle.wal_entry.specs.Framed.{HasFrame}
 use Rattle.rep_model.specs.Keyed.{given, replace}
 use Rattle.rep_model.specs.Plan.{Finds, told}
 use Rattle.rep_model.specs.Path.{refusal_of}
-use Rattle.rep_model.specs.PlanRows.{delivery_plan, deliver_plan}
 use Rattle.rep_model.specs.State.{Route, of, dest, is_flight, flight_of}
 use Rattle.rep_model.specs.Row.{Row}
 use Rattle.rep_model.specs.Rows.{row}
-use Rattle.rep_model.specs.QueueEvents.{Delivery, delivered, failing, with_delivered, flight_forms}
+use Rattle.rep_model.specs.QueueEvents.{Delivery, delivered, failing, with_delivered, flight_forms, delivery_plan, deliver_plan}
 use Rattle.rep_model.specs.declared.machine.Commit.{Commit}
 use Rattle.rep_model.specs.declared.machine.Flight.{Flight}
 use Rattle.rep_model.specs.declared.machine.Form.{Form}

@@ -10,8 +10,7 @@ use Rattle.wal_roll.specs.Log.{LogValue, writer_of, frame_size}
 use Rattle.region_server.specs.Host.{IsHost}
 use Rattle.rep_model.specs.State.{is_server, server_of}
 use Rattle.rep_model.specs.Path.{refusal_of}
-use Rattle.rep_model.specs.PlanRows.{sync_plan, roll_plan}
-use Rattle.rep_model.specs.MoreRows.{seal_plan}
+use Rattle.rep_model.specs.LogEvents.{sync_plan, roll_plan, seal_plan}
 use Rattle.rep_model.specs.State.{Route}
 use Rattle.rep_model.specs.declared.machine.Machine.{Machine}
 use Rattle.rep_model.specs.declared.machine.Side.{Side}

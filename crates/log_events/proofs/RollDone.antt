@@ -14,12 +14,11 @@ use Rattle.rep_model.specs.State.{Route, dest, of, server_of, with_server, unlin
 use Rattle.rep_model.specs.Words.{is_in}
 use Rattle.rep_model.specs.Row.{Row, answers, fault_among, or_fault, site}
 use Rattle.rep_model.specs.Plan.{Plan, Refuses, Asks, Ends, told}
-use Rattle.rep_model.specs.PlanRows.{copy_site, roll_plan}
 use Rattle.rep_model.specs.Copies.{make_copy}
 use Rattle.rep_model.specs.Commits.{settled}
 use Rattle.rep_model.specs.Peers.{is_dual_in}
 use Rattle.rep_model.specs.Tickets.{doubt_pending, doubtful, is_doubtful, newly}
-use Rattle.rep_model.specs.LogEvents.{is_dual, is_fenced, kept_of, next_log}
+use Rattle.rep_model.specs.LogEvents.{is_dual, is_fenced, kept_of, next_log, copy_site, roll_plan}
 use Rattle.rep_model.specs.declared.faults.Site.{Site}
 use Rattle.rep_model.specs.declared.machine.Machine.{Machine}
 use Rattle.rep_model.specs.declared.machine.Link.{Link}

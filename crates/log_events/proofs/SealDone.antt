@@ -9,7 +9,7 @@ use Rattle.rep_vault.specs.Contents.{Contents}
 use Rattle.rep_model.specs.State.{of, server_of, with_server}
 use Rattle.rep_model.specs.Row.{answers, is_site, site}
 use Rattle.rep_model.specs.Plan.{told}
-use Rattle.rep_model.specs.MoreRows.{seal_plan}
+use Rattle.rep_model.specs.LogEvents.{seal_plan}
 use Rattle.rep_model.specs.Commits.{settled}
 use Rattle.rep_model.specs.declared.machine.Machine.{Machine}
 use Rattle.rep_model.specs.declared.machine.Side.{Side}

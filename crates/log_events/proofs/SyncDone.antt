@@ -9,10 +9,9 @@ use Rattle.rep_model.specs.State.{Route, of, server_of, with_server, unlinked}
 use Rattle.rep_model.specs.Words.{is_in}
 use Rattle.rep_model.specs.Row.{answers, is_site, site}
 use Rattle.rep_model.specs.Plan.{told}
-use Rattle.rep_model.specs.PlanRows.{sync_plan}
 use Rattle.rep_model.specs.Commits.{settled}
 use Rattle.rep_model.specs.Tickets.{acks, is_acknowledged, newly}
-use Rattle.rep_model.specs.LogEvents.{emptied, broken, synced_with}
+use Rattle.rep_model.specs.LogEvents.{emptied, broken, synced_with, sync_plan}
 use Rattle.rep_model.specs.declared.machine.Machine.{Machine}
 use Rattle.rep_model.specs.declared.machine.Side.{Side}
 use Rattle.rep_model.specs.declared.machine.Server.{Server}

@@ -6,7 +6,7 @@ ghost use Rattle.rep_vault.specs.Contents.{Contents};
 ghost use Rattle.rep_model.specs.State.{Route, of};
 ghost use Rattle.rep_model.specs.Words.{is_in};
 ghost use Rattle.rep_model.specs.Path.{refusal_of};
-ghost use Rattle.rep_model.specs.PlanRows.{roll_plan};
+ghost use Rattle.rep_model.specs.LogEvents.{roll_plan};
 ghost use Rattle.rep_model.specs.declared.machine.Machine.{Machine};
 ghost use Rattle.cluster_core.specs.declared.parts.Station.{Station};
 ghost use Rattle.cluster_core.specs.Texts.{OfServer, log_text};

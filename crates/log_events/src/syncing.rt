@@ -5,7 +5,7 @@ ghost use Rattle.rep_vault.specs.Contents.{Contents};
 ghost use Rattle.rep_model.specs.State.{Route, of};
 ghost use Rattle.rep_model.specs.Words.{is_in};
 ghost use Rattle.rep_model.specs.Path.{refusal_of};
-ghost use Rattle.rep_model.specs.PlanRows.{sync_plan};
+ghost use Rattle.rep_model.specs.LogEvents.{sync_plan};
 ghost use Rattle.rep_model.specs.declared.machine.Machine.{Machine};
 ghost use Rattle.cluster_core.specs.Lookups.{ServersStand};
 ghost use Rattle.cluster_core.specs.Stands.{Stands};

@@ -22,14 +22,13 @@ use Rattle.rep_model.specs.Keyed.{given, if_some}
 use Rattle.rep_model.specs.State.{Route, of, with, dest, is_server, is_peer}
 use Rattle.rep_model.specs.Words.{is_in}
 use Rattle.rep_model.specs.FormEvents.{made_form}
-use Rattle.rep_model.specs.MoreRows.{peer_plan}
 use Rattle.rep_model.specs.Path.{refusal_of}
 use Rattle.rep_model.specs.Plan.{Asks, Ends, told}
 use Rattle.rep_model.specs.Places.{table_of}
 use Rattle.rep_model.specs.Queues.{is_queued}
 use Rattle.rep_model.specs.LogEvents.{new_queue}
 use Rattle.rep_model.specs.Row.{site}
-use Rattle.rep_model.specs.PeerEvents.{new_peer, new_queues}
+use Rattle.rep_model.specs.PeerEvents.{new_peer, new_queues, peer_plan}
 use Rattle.rep_model.specs.PeerEvents as state
 use Rattle.rep_model.specs.declared.machine.Machine.{Machine}
 use Rattle.rep_model.specs.declared.machine.Side.{Side}

@@ -1,7 +1,7 @@
 ghost use Rattle.std.specs.Prelude.{◌≡◌, map, true, IfOk};
 ghost use Rattle.rep_types.specs.declared.event.Event.TheVariants as event;
 ghost use Rattle.rep_types.specs.declared.state.Kind.TheVariants as kind;
-ghost use Rattle.rep_model.specs.MoreRows.{peer_plan};
+ghost use Rattle.rep_model.specs.PeerEvents.{peer_plan};
 ghost use Rattle.rep_model.specs.Path.{refusal_of};
 ghost use Rattle.rep_model.specs.State.{Route, of, dest};
 ghost use Rattle.rep_model.specs.Words.{is_in};

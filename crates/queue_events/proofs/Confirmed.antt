@@ -15,11 +15,9 @@ use Rattle.rep_model.specs.State.{Route, of, with, mark, is_peer, is_queue, is_f
 use Rattle.rep_model.specs.Words.{is_in}
 use Rattle.rep_model.specs.Path.{refusal_of}
 use Rattle.rep_model.specs.Plan.{Plan, told}
-use Rattle.rep_model.specs.PlanRows.{lives as lives_in}
-use Rattle.rep_model.specs.MoreRows.{confirm_plan}
 use Rattle.rep_model.specs.Peers.{is_enabled, peer_of}
 use Rattle.rep_model.specs.Row.{Row, answers}
-use Rattle.rep_model.specs.QueueEvents.{is_out, flown, landed, recorded}
+use Rattle.rep_model.specs.QueueEvents.{is_out, flown, landed, recorded, lives as lives_in, confirm_plan}
 use Rattle.rep_model.specs.declared.machine.Machine.{Machine}
 use Rattle.rep_model.specs.declared.machine.Side.{Side}
 use Rattle.rep_model.specs.declared.machine.Peer.{Peer}

@@ -7,7 +7,7 @@ use Rattle.rep_vault.specs.Contents.{Contents}
 use Rattle.rep_model.specs.Keyed.{given}
 use Rattle.rep_model.specs.State.{Route, of, is_flight, is_queue, flight_of, queue_of}
 use Rattle.rep_model.specs.Peers.{is_removed, is_enabled, peer_of}
-use Rattle.rep_model.specs.PlanRows.{lives as lives_in}
+use Rattle.rep_model.specs.QueueEvents.{lives as lives_in}
 use Rattle.rep_model.specs.declared.machine.Flight.{Flight}
 use Rattle.rep_model.specs.declared.machine.Machine.{Machine}
 use Rattle.rep_model.specs.declared.machine.Peer.{Peer}

@@ -11,9 +11,8 @@ use Rattle.rep_model.specs.State.{Route, of, is_server, is_peer, is_queue, queue
 use Rattle.rep_model.specs.Words.{is_in}
 use Rattle.rep_model.specs.Path.{refusal_of}
 use Rattle.rep_model.specs.Peers.{peer_of, is_enabled}
-use Rattle.rep_model.specs.PlanRows.{lives as lives_in, send_plan}
 use Rattle.rep_model.specs.Queues.{queue}
-use Rattle.rep_model.specs.QueueEvents.{is_empty}
+use Rattle.rep_model.specs.QueueEvents.{is_empty, lives as lives_in, send_plan}
 use Rattle.rep_model.specs.declared.machine.Machine.{Machine}
 use Rattle.rep_model.specs.declared.machine.Commit.{Commit}
 use Rattle.rep_model.specs.declared.machine.Peer.{Peer}

@@ -9,9 +9,8 @@ use Rattle.rep_vault.specs.Contents.{Contents}
 use Rattle.rep_model.specs.Keyed.{replace}
 use Rattle.rep_model.specs.State.{Route, of, with, mark, is_queue, with_queue}
 use Rattle.rep_model.specs.Queues.{batch}
-use Rattle.rep_model.specs.QueueEvents.{new_flight, next_flight, held_refusal, flight_forms}
+use Rattle.rep_model.specs.QueueEvents.{new_flight, next_flight, held_refusal, flight_forms, send_plan}
 use Rattle.rep_model.specs.Plan.{told}
-use Rattle.rep_model.specs.PlanRows.{send_plan}
 use Rattle.rep_model.specs.Row.{answers, is_site, site}
 use Rattle.rep_model.specs.declared.machine.Machine.{Machine}
 use Rattle.rep_model.specs.declared.machine.Side.{Side}

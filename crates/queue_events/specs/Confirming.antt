@@ -1,7 +1,7 @@
 -- When a flight may be recorded, and what is left once it is.
 use Rattle.std.specs.Prelude.{ℕ, ◌≡◌, true, find, Option, Some}
 use Rattle.rep_model.specs.Keyed.{given, replace}
-use Rattle.rep_model.specs.PlanRows.{lives as lives_in}
+use Rattle.rep_model.specs.QueueEvents.{lives as lives_in}
 use Rattle.rep_model.specs.Peers.{peer_of}
 use Rattle.rep_model.specs.State.{Route, flight_of}
 use Rattle.rep_model.specs.declared.machine.Flight.{Flight}

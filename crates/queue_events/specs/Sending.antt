@@ -5,9 +5,8 @@ use Rattle.rep_types.specs.declared.ids.Cluster.{Cluster}
 use Rattle.rep_types.specs.declared.entry.Entry.{Entry}
 use Rattle.region_meta.specs.Regions.{Map, region_of, table_of}
 use Rattle.rep_model.specs.Keyed.{given}
-use Rattle.rep_model.specs.PlanRows.{lives as lives_in}
 use Rattle.rep_model.specs.Queues.{queue}
-use Rattle.rep_model.specs.QueueEvents.{is_empty}
+use Rattle.rep_model.specs.QueueEvents.{is_empty, lives as lives_in}
 use Rattle.rep_model.specs.State.{of, mark, queue_of}
 use Rattle.rep_model.specs.Peers.{has_table, is_enabled, is_synchronous, peer_of}
 use Rattle.rep_model.specs.Forms.{is_marked, cut_kind}

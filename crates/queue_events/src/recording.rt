@@ -3,7 +3,7 @@ ghost use Rattle.std.specs.Prelude.{◌≡◌, true, Some, map, IfOk, MatchResul
 ghost use Rattle.rep_types.specs.declared.event.Event.TheVariants as event;
 ghost use Rattle.rep_vault.specs.Contents.{Contents};
 ghost use Rattle.rep_model.specs.Calm.{is_calm};
-ghost use Rattle.rep_model.specs.MoreRows.{confirm_plan};
+ghost use Rattle.rep_model.specs.QueueEvents.{confirm_plan};
 ghost use Rattle.rep_model.specs.Path.{refusal_of};
 ghost use Rattle.rep_model.specs.State.{Route, of};
 ghost use Rattle.rep_model.specs.Words.{is_in};

@@ -3,7 +3,7 @@ ghost use Rattle.std.specs.Prelude.{◌≡◌, ◌+◌, ℕ, true, Some, length,
 ghost use Rattle.rep_vault.specs.Contents.{Contents};
 ghost use Rattle.rep_model.specs.Path.{refusal_of};
 ghost use Rattle.rep_model.specs.Peers.{is_enabled, is_synchronous};
-ghost use Rattle.rep_model.specs.PlanRows.{send_plan};
+ghost use Rattle.rep_model.specs.QueueEvents.{send_plan};
 ghost use Rattle.rep_model.specs.State.{Route, of};
 ghost use Rattle.rep_model.specs.Words.{is_in};
 ghost use Rattle.rep_model.specs.declared.machine.Machine.{Machine};

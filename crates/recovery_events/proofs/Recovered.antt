@@ -25,13 +25,12 @@ use Rattle.region_meta.specs.declared.region.Region.{Region as MapRegion}
 use Rattle.rep_model.specs.Keyed.{given, if_some}
 use Rattle.rep_model.specs.State.{Route, of, is_region, is_server, region_of, server_of, with_region}
 use Rattle.rep_model.specs.Words.{is_in}
-use Rattle.rep_model.specs.MoreRows.{recover_plan}
 use Rattle.rep_model.specs.Path.{refusal_of}
 use Rattle.rep_model.specs.Plan.{Asks, Ends, told}
 use Rattle.rep_model.specs.Commits.{commit_count, pending_count}
 use Rattle.rep_model.specs.Places.{is_gone, lost_at}
 use Rattle.rep_model.specs.Row.{answers, is_site, site, run_sites}
-use Rattle.rep_model.specs.RegionEvents.{flushed, moved}
+use Rattle.rep_model.specs.RegionEvents.{flushed, moved, recover_plan}
 use Rattle.rep_model.specs.declared.faults.Site.{Site}
 use Rattle.rep_model.specs.declared.machine.Machine.{Machine}
 use Rattle.rep_model.specs.declared.machine.Commit.{Commit}

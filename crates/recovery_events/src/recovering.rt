@@ -4,7 +4,7 @@ ghost use Rattle.rep_types.specs.declared.event.Event.TheVariants as event;
 ghost use Rattle.rep_vault.specs.Contents.{Contents};
 ghost use Rattle.region_meta.specs.Regions.{region_of};
 ghost use Rattle.rep_model.specs.Keyed.{if_some};
-ghost use Rattle.rep_model.specs.MoreRows.{recover_plan};
+ghost use Rattle.rep_model.specs.RegionEvents.{recover_plan};
 ghost use Rattle.rep_model.specs.Path.{refusal_of};
 ghost use Rattle.rep_model.specs.State.{Route, of, is_server};
 ghost use Rattle.rep_model.specs.Words.{is_in};

@@ -13,14 +13,13 @@ use Rattle.rep_vault.specs.Contents.{Contents}
 use Rattle.region_meta.specs.Regions as meta
 use Rattle.region_meta.specs.Changes as change
 use Rattle.region_meta.specs.declared.region.Region.{Region as MapRegion}
-use Rattle.rep_model.specs.MoreRows.{close_begin_plan}
 use Rattle.rep_model.specs.Path.{refusal_of}
 use Rattle.rep_model.specs.Plan.{told}
 use Rattle.rep_model.specs.Rows.{row}
 use Rattle.rep_model.specs.State.{Route, of, is_region, region_of, with_region}
 use Rattle.rep_model.specs.Places.{is_gone, on_at}
 use Rattle.rep_model.specs.Row.{answers}
-use Rattle.rep_model.specs.RegionEvents.{moved}
+use Rattle.rep_model.specs.RegionEvents.{moved, close_begin_plan}
 use Rattle.rep_model.specs.declared.machine.Machine.{Machine}
 use Rattle.rep_model.specs.declared.machine.Side.{Side}
 use Rattle.rep_model.specs.declared.machine.Hosted.{Hosted}

@@ -27,7 +27,7 @@ use Rattle.rep_model.specs.Keyed.{replace}
 use Rattle.rep_model.specs.State.{Route, of, mark, is_server, is_region}
 use Rattle.rep_model.specs.Words.{is_in}
 use Rattle.rep_model.specs.Path.{refusal_of}
-use Rattle.rep_model.specs.PlanRows as plans
+use Rattle.rep_model.specs.RegionEvents as plans
 use Rattle.rep_model.specs.Places.{opens_at, closes_at, capped, used, lacks_room}
 use Rattle.rep_model.specs.Changes.{takes_pending}
 use Rattle.rep_model.specs.Commits.{commit_count, pending_count}

@@ -16,7 +16,7 @@ use Rattle.rep_model.specs.Places.{lacks_room}
 use Rattle.rep_model.specs.LogEvents.{own_pending, synced_with}
 use Rattle.rep_model.specs.Plan.{told}
 use Rattle.rep_model.specs.Path.{refusal_of}
-use Rattle.rep_model.specs.PlanRows.{marker_plan, open_end_plan, close_end_plan}
+use Rattle.rep_model.specs.RegionEvents.{marker_plan, open_end_plan, close_end_plan}
 use Rattle.rep_model.specs.declared.faults.Site.{Site}
 use Rattle.rep_model.specs.Row.{answers, is_site, site}
 use Rattle.rep_model.specs.Rows.{row}

@@ -23,7 +23,6 @@ use Rattle.region_meta.specs.Regions as meta
 use Rattle.region_meta.specs.Changes as change
 use Rattle.region_meta.specs.declared.region.Region.{Region as MapRegion}
 use Rattle.rep_model.specs.Keyed.{given}
-use Rattle.rep_model.specs.MoreRows.{open_begin_plan}
 use Rattle.rep_model.specs.Path.{refusal_of}
 use Rattle.rep_model.specs.Plan.{Asks, Ends, told}
 use Rattle.rep_model.specs.State.{Route, of, with, is_region, is_server, region_of, server_of}
@@ -31,7 +30,7 @@ use Rattle.rep_model.specs.Words.{is_in}
 use Rattle.rep_model.specs.Commits.{commit_count, pending_count}
 use Rattle.rep_model.specs.Places.{is_off}
 use Rattle.rep_model.specs.Row.{answers, site}
-use Rattle.rep_model.specs.RegionEvents.{with_barrier, barrier, opened}
+use Rattle.rep_model.specs.RegionEvents.{with_barrier, barrier, opened, open_begin_plan}
 use Rattle.rep_model.specs.declared.machine.Machine.{Machine}
 use Rattle.rep_model.specs.declared.machine.Side.{Side}
 use Rattle.rep_model.specs.declared.machine.Hosted.{Hosted}

@@ -23,14 +23,13 @@ use Rattle.region_meta.specs.Changes as meta
 use Rattle.rep_model.specs.Keyed.{given}
 use Rattle.rep_model.specs.State.{Route, of, with, is_region}
 use Rattle.rep_model.specs.Words.{is_in}
-use Rattle.rep_model.specs.MoreRows.{table_plan}
 use Rattle.rep_model.specs.Path.{refusal_of}
 use Rattle.rep_model.specs.Plan.{Plan, Asks, Ends, told}
 use Rattle.rep_model.specs.Commits.{commit_count}
 use Rattle.rep_model.specs.Places.{is_named, table_of}
 use Rattle.rep_model.specs.Reads.{table_edits}
 use Rattle.rep_model.specs.Row.{answers, site}
-use Rattle.rep_model.specs.RegionEvents.{hosted, new_table, first_region, next_region, too_many}
+use Rattle.rep_model.specs.RegionEvents.{hosted, new_table, first_region, next_region, too_many, table_plan}
 use Rattle.rep_model.specs.declared.machine.Machine.{Machine}
 use Rattle.rep_model.specs.declared.machine.Side.{Side}
 use Rattle.rep_model.specs.declared.machine.Table.{Table}

@@ -17,7 +17,7 @@ use Rattle.rep_model.specs.Places.{opens_at, closes_at}
 use Rattle.rep_model.specs.State.{of, is_region, mark}
 use Rattle.rep_model.specs.Row.{site}
 use Rattle.rep_model.specs.Plan.{Plan}
-use Rattle.rep_model.specs.PlanRows.{marker_plan}
+use Rattle.rep_model.specs.RegionEvents.{marker_plan}
 use Rattle.rep_model.specs.declared.faults.Site.{Site}
 use Rattle.rep_model.specs.declared.machine.Machine.{Machine}
 use Rattle.rep_model.specs.declared.machine.Hosted.{Hosted}

@@ -3,7 +3,7 @@ ghost use Rattle.std.specs.Prelude.{◌≡◌, Some, true, IfOk, IfErr};
 ghost use Rattle.rep_types.specs.declared.event.Event.TheVariants as event;
 ghost use Rattle.rep_vault.specs.Contents.{Contents};
 ghost use Rattle.rep_model.specs.Calm.{is_calm};
-ghost use Rattle.rep_model.specs.MoreRows.{close_begin_plan};
+ghost use Rattle.rep_model.specs.RegionEvents.{close_begin_plan};
 ghost use Rattle.rep_model.specs.Path.{refusal_of};
 ghost use Rattle.rep_model.specs.State.{Route, of};
 ghost use Rattle.rep_model.specs.declared.machine.Machine.{Machine};

@@ -2,7 +2,7 @@ ghost use Rattle.std.specs.Prelude.{◌≡◌, ◌+◌, ◌<◌, true, List, [],
 ghost use Rattle.rep_types.specs.declared.event.Event.TheVariants as event;
 ghost use Rattle.rep_types.specs.declared.table.Family.{Family};
 ghost use Rattle.rep_types.specs.declared.state.PlaceOf.TheVariants as place;
-ghost use Rattle.rep_model.specs.MoreRows.{table_plan};
+ghost use Rattle.rep_model.specs.RegionEvents.{table_plan};
 ghost use Rattle.rep_model.specs.Path.{refusal_of};
 ghost use Rattle.rep_model.specs.State.{Route, of};
 ghost use Rattle.rep_model.specs.Words.{is_in};

@@ -13,7 +13,7 @@ use Rattle.rep_model.specs.Words.{is_in}
 use Rattle.rep_model.specs.Row.{answers}
 use Rattle.rep_model.specs.Plan.{told as told_row}
 use Rattle.rep_model.specs.Path.{refusal_of}
-use Rattle.rep_model.specs.MoreRows.{crash_plan}
+use Rattle.rep_model.specs.LogEvents.{crash_plan}
 use Rattle.rep_model.specs.Tickets.{doubt_pending, tell_waiting, doubtful, is_doubtful, newly}
 use Rattle.rep_model.specs.declared.machine.Machine.{Machine}
 use Rattle.rep_model.specs.declared.machine.Commit.{Commit}

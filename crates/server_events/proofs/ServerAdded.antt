@@ -27,9 +27,8 @@ use Rattle.rep_model.specs.Peers.{is_removed, is_dual_in}
 use Rattle.rep_model.specs.Row.{answers, fault_among, site}
 use Rattle.rep_model.specs.Plan.{told}
 use Rattle.rep_model.specs.Path.{refusal_of}
-use Rattle.rep_model.specs.PlanRows.{server_plan}
 use Rattle.rep_model.specs.FormEvents.{made_form}
-use Rattle.rep_model.specs.LogEvents.{is_dual, new_server, new_queue, server_queues}
+use Rattle.rep_model.specs.LogEvents.{is_dual, new_server, new_queue, server_queues, server_plan}
 use Rattle.rep_model.specs.declared.machine.Machine.{Machine}
 use Rattle.rep_model.specs.declared.machine.Side.{Side}
 use Rattle.rep_model.specs.declared.machine.Link.{Link}

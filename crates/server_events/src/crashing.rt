@@ -7,7 +7,7 @@ ghost use Rattle.rep_model.specs.Places.{after_death};
 ghost use Rattle.rep_model.specs.State.{Route, of};
 ghost use Rattle.rep_model.specs.Words.{is_in};
 ghost use Rattle.rep_model.specs.Path.{refusal_of};
-ghost use Rattle.rep_model.specs.MoreRows.{crash_plan};
+ghost use Rattle.rep_model.specs.LogEvents.{crash_plan};
 ghost use Rattle.rep_model.specs.declared.machine.Machine.{Machine};
 ghost use Rattle.cluster_core.specs.declared.parts.Station.{Station};
 ghost use Rattle.cluster_core.specs.Lookups.{ServersStand};

@@ -13,9 +13,8 @@ use Rattle.wal_entry.specs.Length.{frame_length}
 use Rattle.rep_model.specs.State.{of, unlinked}
 use Rattle.rep_model.specs.Peers.{is_standby, is_covered}
 use Rattle.rep_model.specs.Places.{table_of, located_number, Seat, seat, capped, used, lacks_room}
-use Rattle.rep_model.specs.LogEvents.{put_edit, has_family, is_barred}
+use Rattle.rep_model.specs.LogEvents.{put_edit, has_family, is_barred, put_plan}
 use Rattle.rep_model.specs.Path.{refusal_of}
-use Rattle.rep_model.specs.PlanRows.{put_plan}
 use Rattle.rep_model.specs.declared.machine.Machine.{Machine}
 use Rattle.rep_model.specs.declared.machine.Link.{Link}
 use Rattle.rep_model.specs.declared.machine.Table.{Table}

@@ -32,9 +32,8 @@ use Rattle.rep_model.specs.Changes.{takes_pending}
 use Rattle.rep_model.specs.Commits.{commit_count, pending_count}
 use Rattle.rep_model.specs.Tickets as tickets
 use Rattle.rep_model.specs.Row.{answers, is_site, site}
-use Rattle.rep_model.specs.LogEvents.{put_edit, has_family, is_barred, own_pending, pended, broken_by}
+use Rattle.rep_model.specs.LogEvents.{put_edit, has_family, is_barred, own_pending, pended, broken_by, put_plan}
 use Rattle.rep_model.specs.Plan.{told}
-use Rattle.rep_model.specs.PlanRows.{put_plan}
 use Rattle.rep_model.specs.declared.machine.Machine.{Machine}
 use Rattle.rep_model.specs.declared.machine.Pending.{Pending}
 use Rattle.rep_laws.proofs.Lists.{In}

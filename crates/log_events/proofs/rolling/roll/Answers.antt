@@ -3,7 +3,7 @@ use Rattle.std.proofs.Common.{ℕ, sym, subst}
 use Rattle.rep_types.specs.declared.reply.Reply.TheVariants as reply
 use Rattle.rep_vault.specs.Contents.{Contents}
 use Rattle.rep_model.specs.Plan.{told}
-use Rattle.rep_model.specs.PlanRows.{roll_plan}
+use Rattle.rep_model.specs.LogEvents.{roll_plan}
 use Rattle.rep_model.specs.State.{of}
 use Rattle.cluster_core.specs.declared.parts.ClusterCore.{ClusterCore}
 use Rattle.cluster_core.specs.Does.{Does}

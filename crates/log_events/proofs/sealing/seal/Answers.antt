@@ -5,7 +5,7 @@ use Rattle.rep_types.specs.declared.reply.Reply.TheVariants as reply
 use Rattle.rep_vault.specs.Contents.{Contents}
 use Rattle.region_server.specs.Host.{Stands as HostStands}
 use Rattle.rep_model.specs.Plan.{told}
-use Rattle.rep_model.specs.MoreRows.{seal_plan}
+use Rattle.rep_model.specs.LogEvents.{seal_plan}
 use Rattle.rep_model.specs.State.{of}
 use Rattle.cluster_core.specs.declared.parts.Station.{Station}
 use Rattle.cluster_core.specs.declared.parts.ClusterCore.{ClusterCore}

@@ -9,7 +9,7 @@ use Rattle.cluster_core.specs.declared.parts.Station.{Station}
 use Rattle.cluster_core.specs.declared.parts.ClusterCore.{ClusterCore}
 use Rattle.cluster_core.specs.Logs.{log_of}
 use Rattle.cluster_core.proofs.Reaching.{orderly}
-use Rattle.rep_model.specs.PlanRows.{sync_plan}
+use Rattle.rep_model.specs.LogEvents.{sync_plan}
 use Rattle.cluster_core.proofs.Answering.{plan_refused}
 use Rattle.log_events.proofs.Refused.{opened, unbroken}
 use Rattle.log_events.proofs.SyncDone.{sync_failed, sync_done}

@@ -2,7 +2,7 @@ use Rattle.std.proofs.Common.{[], ◌∷◌, ap, sym, ◌∙◌}
 use Rattle.rep_types.specs.declared.state.Kind.TheVariants as kind
 use Rattle.rep_vault.specs.declared.store.Change.{Change}
 use Rattle.rep_vault.specs.Contents.{with_records}
-use Rattle.rep_model.specs.MoreRows.{peer_plan}
+use Rattle.rep_model.specs.PeerEvents.{peer_plan}
 use Rattle.cluster_core.proofs.Answering.{plan_refused}
 use Rattle.peer_events.proofs.PeerAdded.{peer_faulted, peer_made}
 use Rattle.peer_events.proofs.peers.peer.Goals as goal

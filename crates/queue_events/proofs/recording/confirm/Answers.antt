@@ -1,5 +1,5 @@
 use Rattle.rep_types.specs.declared.ids.Cluster.{Cluster}
-use Rattle.rep_model.specs.MoreRows.{confirm_plan}
+use Rattle.rep_model.specs.QueueEvents.{confirm_plan}
 use Rattle.cluster_core.specs.declared.parts.ClusterCore.{ClusterCore}
 use Rattle.queue_events.proofs.Confirmed.{plan_refused, recorded_answer, its_cluster}
 use Rattle.queue_events.proofs.recording.confirm.Goals as goal

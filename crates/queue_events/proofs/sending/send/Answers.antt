@@ -1,6 +1,6 @@
 use Rattle.std.proofs.Common.{sym}
 use Rattle.rep_vault.specs.Contents.{Contents}
-use Rattle.rep_model.specs.PlanRows.{send_plan}
+use Rattle.rep_model.specs.QueueEvents.{send_plan}
 use Rattle.cluster_core.specs.declared.parts.ClusterCore.{ClusterCore}
 use Rattle.queue_events.proofs.Sources.{logs_kept}
 use Rattle.queue_events.proofs.Confirmed.{plan_refused}

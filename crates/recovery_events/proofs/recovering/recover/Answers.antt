@@ -2,7 +2,7 @@ use Rattle.std.proofs.Common.{List, ap, sym, ◌∙◌}
 use Rattle.rep_types.specs.declared.state.Call.TheVariants.{Read}
 use Rattle.rep_vault.specs.declared.store.Change.{Change}
 use Rattle.rep_vault.specs.Contents.{with_records}
-use Rattle.rep_model.specs.MoreRows.{recover_plan}
+use Rattle.rep_model.specs.RegionEvents.{recover_plan}
 use Rattle.cluster_core.proofs.Answering.{plan_refused}
 use Rattle.cluster_core.proofs.Later.{counts_then, told_then}
 use Rattle.recovery_events.proofs.Recovered.{recover_unread, recover_unput, recover_known, recover_traced, recover_readable, recover_done}

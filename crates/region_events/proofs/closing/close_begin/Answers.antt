@@ -1,4 +1,4 @@
-use Rattle.rep_model.specs.MoreRows.{close_begin_plan}
+use Rattle.rep_model.specs.RegionEvents.{close_begin_plan}
 use Rattle.cluster_core.proofs.Answering.{plan_refused}
 use Rattle.region_events.proofs.ClosingBegun.{is_there, close_done}
 use Rattle.region_events.proofs.closing.close_begin.Goals as goal

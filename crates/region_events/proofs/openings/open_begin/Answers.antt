@@ -1,7 +1,7 @@
 use Rattle.std.proofs.Common.{List, ap, sym, ◌∙◌}
 use Rattle.rep_vault.specs.declared.store.Change.{Change}
 use Rattle.rep_vault.specs.Contents.{with_records}
-use Rattle.rep_model.specs.MoreRows.{open_begin_plan}
+use Rattle.rep_model.specs.RegionEvents.{open_begin_plan}
 use Rattle.cluster_core.proofs.Answering.{plan_refused}
 use Rattle.region_events.proofs.OpeningBegun.{open_faulted, open_known, open_traced, open_rises, open_done}
 use Rattle.region_events.proofs.openings.open_begin.Goals as goal

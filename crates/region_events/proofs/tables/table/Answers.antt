@@ -1,7 +1,7 @@
 use Rattle.std.proofs.Common.{List, refl, ap, sym, ◌∙◌}
 use Rattle.rep_vault.specs.declared.store.Change.{Change}
 use Rattle.rep_vault.specs.Contents.{with_records}
-use Rattle.rep_model.specs.MoreRows.{table_plan}
+use Rattle.rep_model.specs.RegionEvents.{table_plan}
 use Rattle.cluster_core.proofs.Answering.{plan_refused}
 use Rattle.region_events.proofs.TableAdded.{table_faulted, table_made}
 use Rattle.region_events.proofs.tables.table.Goals as goal

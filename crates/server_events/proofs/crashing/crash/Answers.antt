@@ -1,5 +1,5 @@
 use Rattle.rep_model.specs.State.{of}
-use Rattle.rep_model.specs.MoreRows.{crash_plan}
+use Rattle.rep_model.specs.LogEvents.{crash_plan}
 use Rattle.cluster_core.specs.declared.parts.ClusterCore.{ClusterCore}
 use Rattle.cluster_core.proofs.Answering.{plan_refused}
 use Rattle.cluster_core.proofs.Reaching.{orderly}

@@ -1,4 +1,4 @@
-use Rattle.rep_model.specs.PlanRows.{put_plan}
+use Rattle.rep_model.specs.LogEvents.{put_plan}
 use Rattle.cluster_core.proofs.Answering.{plan_refused}
 use Rattle.write_events.proofs.Typing.{worded}
 use Rattle.write_events.proofs.writing.put.Goals as goal
