@@ -97,7 +97,7 @@ module _ (side : Side) (h new : Hosted) (there : find (is_region h.region.number
   pub elsewhere : (k : ℕ) → (h.region.number ≡ k → ⊥) → find (is_region k) (with_hosted h.region.number new side).regions ≡ find (is_region k) side.regions
   elsewhere k apart =
       find_elsewhere (is_region r) (is_region k) new side.regions (ne_eqb new.region.number k (λ e. apart (sym same ∙ e)))
-          (λ y e. ne_eqb y.region.number k (λ q. apart (sym (eqb-true y.region.number r e) ∙ q)))
+      (λ y e. ne_eqb y.region.number k (λ q. apart (sym (eqb-true y.region.number r e) ∙ q)))
 
   -- what doesn't tell the two apart is as it was
   pub as_before : (f : Hosted → List ℕ) → f new ≡ f h → (k : ℕ) → option_map f (find (is_region k) side.regions) ≡ option_map f (find (is_region k) (with_hosted h.region.number new side).regions)
@@ -121,7 +121,7 @@ module _ (side : Side) (h new : Hosted) (there : find (is_region h.region.number
   unfolding meta.given
   map_is p made next =
       ap (λ (o : Option MapRegion). meta.given o (map_of side) (λ x. record
-          (map_of side) { regions = change.replace (meta.is_region r) (change.moved (change.next_place x.place p) x) (map map_region side.regions) }))
+      (map_of side) { regions = change.replace (meta.is_region r) (change.moved (change.next_place x.place p) x) (map map_region side.regions) }))
       (region_of_map r (map_of side) side refl ∙ ap (option_map map_region) there)
       ∙ (ap (λ (q : PlaceOf). record (map_of side) { regions = change.replace (meta.is_region r) (change.moved q (map_region h)) (map map_region side.regions) }) next
       ∙ (ap (λ (x : MapRegion). record (map_of side) { regions = change.replace (meta.is_region r) x (map map_region side.regions) }) (sym made)

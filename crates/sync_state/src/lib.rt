@@ -60,4 +60,3 @@ pub fn may_sink(state: SyncState) -> bool
 {
     state == SyncState::Standby
 }
-

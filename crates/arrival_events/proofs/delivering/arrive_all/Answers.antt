@@ -82,7 +82,7 @@ returns-in-Err-clause-does g c = λ m way stands.
     let u = c.loop-form.invariant.0 m way stands in
     let core : ClusterCore = c.loop-form.core in
     let given = by_own core.own own c.args.peer c.args.synchronous c.form-item.result (g.V.Vault.contents c.loop-form.own) (g.V.Vault.contents c.arrive.new.own) core c.arrive.new.core (Err c.in-Err.why) u.stands.own_is
-        c.in-Err.ensures.does u.now u.midway u.stands in
+    c.in-Err.ensures.does u.now u.midway u.stands in
     subst (λ e. DeliversOr own c.args.peer c.args.synchronous c.args.forms.now m (g.V.Vault.contents c.args.own.now) c.args.core.now (g.V.Vault.contents c.arrive.new.own) c.arrive.new.core (Err e)) (sym c.behind.ensures)
     (fell_short own c.args.peer c.args.synchronous c.form-item.result c.args.forms.now m u.now (g.V.Vault.contents c.args.own.now) (g.V.Vault.contents c.loop-form.own) (g.V.Vault.contents c.arrive.new.own) c.args.core.now core c.arrive.new.core
     c.in-Err.why c.loop-form.arrived c.loop-form.invariant.2 given)

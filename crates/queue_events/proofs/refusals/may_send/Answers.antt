@@ -50,4 +50,3 @@ returns-clause-state c = λ way files m most reached inside stands.
     let core : ClusterCore = c.args.core.now in
     sendable own files core m reached inside stands c.args.peer c.args.server most _ (sym c.added_peer.ensures ∙ ap option_copied c.in-Some.is) c.in-Some-find_line.line.now (sym c.find_line.ensures ∙ ap option_copied c.in-Some-find_line.is) (sym c.is_live.ensures ∙ c.if-not-is_live.false) (sym c.is_enabled.ensures ∙ c.if-not-is_enabled.false)
     c.in_default-flight.is (subst (λ n. c.in-Some-find_line.line.now.at < n) c.shelf_length.ensures c.if-shelf_length-line.false)
-
