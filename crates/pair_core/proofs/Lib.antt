@@ -1,4 +1,5 @@
 mod Beginning
+mod Runs
 mod Seen
 mod Steps
 mod Storing

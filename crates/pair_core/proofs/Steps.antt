@@ -1,5 +1,5 @@
 -- A pair goes on by one step.
-use Rattle.std.proofs.Common.{ℕ, ◌+◌, ◌≤◌, ◌<◌, ◌≡◌, true, false, Bool, List, [], ◌∷◌, ◌++◌, length, refl, sym, ◌∙◌, subst, arith, length-append, Err}
+use Rattle.std.proofs.Common.{ℕ, ◌+◌, ◌≤◌, ◌<◌, ◌≡◌, true, false, Bool, List, [], ◌∷◌, ◌++◌, map, length, refl, sym, ◌∙◌, subst, arith, length-append, Err}
 use Rattle.std.proofs.lemmas.Bool.{true≢false}
 use Rattle.rep_types.specs.declared.ids.Cluster.{Cluster}
 use Rattle.rep_types.specs.declared.ids.Cluster.TheVariants.{A, B, C}
@@ -15,18 +15,19 @@ use Rattle.rep_vault.specs.Contents.{Contents}
 use Rattle.rep_vault.specs.Tallies.{Tally, total}
 use Rattle.rep_model.specs.declared.machine.Machine.{Machine}
 use Rattle.rep_model.specs.Rows.{row}
-use Rattle.rep_model.specs.Runs.{IsLegal, Counts, count, counts_of, Tells, after, state_of, faults_of}
+use Rattle.rep_model.specs.Runs.{IsLegal, Counts, counts_of, step_of, Tells, after, state_of, faults_of}
+use Rattle.rep_model.specs.State.{Pair}
 use Rattle.rep_model.specs.Words.{is_worded}
-use Rattle.rep_model.proofs.Runs.{legal-push, state-push, faults-push}
 use Rattle.rep_laws.specs.Growing.{accepted, Grows}
 use Rattle.rep_laws.proofs.RowLengths.{row_grows}
 use Rattle.cluster_core.specs.declared.parts.CoreError.{CoreError}
 use Rattle.cluster_core.specs.declared.parts.CoreError.TheVariants as failed
 use Rattle.cluster_core.specs.Does.{Counts as Counted, Reached}
 use Rattle.pair_core.specs.declared.sides.Sides.{Sides}
-use Rattle.pair_core.specs.Sides.{Both, of, AllStand, Covers}
-use Rattle.pair_core.specs.Performs.{Done, Performs, changed_of, Rose, FaultRose}
+use Rattle.pair_core.specs.Sides.{Both, AllStand, Covers}
+use Rattle.pair_core.specs.Performs.{Done, Performs, changed_of, RoseIn, FaultRose}
 use Rattle.pair_core.specs.Pair.{IsPair, both}
+use Rattle.pair_core.proofs.Runs.{legal-push, state-push, faults-push, faults-third}
 use Rattle.pair_core.proofs.Seen.{at_most_one}
 
 -- ---- counts
@@ -48,8 +49,8 @@ sums old new h =
 upto : (a b c : ℕ) → a ≤ b → b ≤ c → a ≤ c
 upto a b c h g = omega arith
 
-pub still_covers : (told : Counts) (c : Cluster) (old new : Tally) → Counted old new → Covers told c old → Covers told c new
-still_covers told c old new counts covers = upto (count c told) (total old.faults) (total new.faults) covers (sums old.faults new.faults counts.kept)
+still_covers : (told : ℕ) (old new : Tally) → Counted old new → Covers told old → Covers told new
+still_covers told old new counts covers = upto told (total old.faults) (total new.faults) covers (sums old.faults new.faults counts.kept)
 
 -- ---- the record
 
@@ -60,55 +61,60 @@ below : (a b c : ℕ) → a ≤ b → b < c → a < c
 below a b c h g = omega arith
 
 -- a fault that rose is told above the faults told before
-rose_told : (store : Cluster) (told : Counts) (e : Event) (said : Reply) (actor : ℕ) (old new : Both Tally) (kind : Call) (n : ℕ) → Covers told A old.a → Covers told B old.b
-    → Rose (of store old) (of store new) kind n → (n ≡ count store (counts_of (made e said new actor))) × (count store told < n)
-rose_told A told e said actor old new kind n a b rose = (rose.count, below told.a (total old.a.faults) n a (subst (λ k. total old.a.faults < k) (sym rose.count) rose.sum))
-rose_told B told e said actor old new kind n a b rose = (rose.count, below told.b (total old.b.faults) n b (subst (λ k. total old.b.faults < k) (sym rose.count) rose.sum))
-rose_told C told e said actor old new kind n a b rose = (rose.count, below told.a (total old.a.faults) n a (subst (λ k. total old.a.faults < k) (sym rose.count) rose.sum))
+rose_told : (store : Cluster) (told : Counts) (e : Event) (said : Reply) (actor : ℕ) (old new : Both Tally) (kind : Call) (n : ℕ) → Covers (told A) old.a → Covers (told B) old.b
+    → RoseIn store old new kind n → (n ≡ counts_of (made e said new actor) store) × (told store < n)
+rose_told A told e said actor old new kind n a b rose = (rose.count, below (told A) (total old.a.faults) n a (subst (λ k. total old.a.faults < k) (sym rose.count) rose.sum))
+rose_told B told e said actor old new kind n a b rose = (rose.count, below (told B) (total old.b.faults) n b (subst (λ k. total old.b.faults < k) (sym rose.count) rose.sum))
+rose_told C told e said actor old new kind n a b rose = absurd rose
 
 -- ---- the next state
 
-after_row : (m : Machine) (r : Record) → (row r.event r.reply m).state ≡ after m r
+after_row : (m : Machine) (r : Record) → (row Pair r.event r.reply m).state ≡ after Pair m (step_of r)
 unfolding after
 after_row m r = refl
 
-pub reached_now : (journal : List Record) → IsLegal journal → Reached (state_of journal)
-reached_now journal legal = (journal, legal, refl)
+pub reached_now : (journal : List Record) → IsLegal journal → Reached Pair (state_of journal)
+reached_now journal legal = record { steps = map step_of journal; legal = legal; leads = refl }
 
 fewer : (a b c d n : ℕ) → a ≤ b → c ≡ a + n → n ≤ 1 → d ≡ b + 1 → c ≤ d
 fewer a b c d n h e g i = omega arith
 
-cause_told : (why : Cause) (told : Counts) (e : Event) (said : Reply) (actor : ℕ) (old new : Both Tally) → Covers told A old.a → Covers told B old.b → FaultRose (reply.Stopped 0 [] why) old new → Tells (reply.Stopped 0 [] why) told (counts_of (made e said new actor))
+cause_told : (why : Cause) (told : Counts) (e : Event) (said : Reply) (actor : ℕ) (old new : Both Tally) → Covers (told A) old.a → Covers (told B) old.b → FaultRose (reply.Stopped 0 [] why) old new → Tells (reply.Stopped 0 [] why) told (counts_of (made e said new actor))
 cause_told (cause.StoreFault store kind n) told e said actor old new a b rose = rose_told store told e said actor old new kind n a b rose
 cause_told _ told e said actor old new a b rose = tt
 
-tells_next : (said : Reply) (told : Counts) (e : Event) (whole : Reply) (actor : ℕ) (old new : Both Tally) → Covers told A old.a → Covers told B old.b → FaultRose said old new → Tells said told (counts_of (made e whole new actor))
+tells_next : (said : Reply) (told : Counts) (e : Event) (whole : Reply) (actor : ℕ) (old new : Both Tally) → Covers (told A) old.a → Covers (told B) old.b → FaultRose said old new → Tells said told (counts_of (made e whole new actor))
 tells_next (reply.StoreFault store kind n) told e whole actor old new a b rose = rose_told store told e whole actor old new kind n a b rose
 tells_next (reply.Stopped index acks why) told e whole actor old new a b rose = cause_told why told e whole actor old new a b rose
 tells_next _ told e whole actor old new a b rose = tt
 
+-- no store's count falls
+no_fewer : (store : Cluster) (told : Counts) (e : Event) (said : Reply) (actor : ℕ) (now : Both Tally) → Covers (told A) now.a → Covers (told B) now.b → told C ≡ 0 → told store ≤ counts_of (made e said now actor) store
+no_fewer A told e said actor now a b c = a
+no_fewer B told e said actor now a b c = b
+no_fewer C told e said actor now a b c = omega (arith, c)
+
 same_sum : (t : Tally) → total t.faults ≤ total t.faults
 same_sum t = omega arith
 
-pub pair_goes_on : {V : Type 0} (contents : V → Contents) (tally : V → Tally) (journal : List Record) (sides left : Sides) (a b c d : V) (e : Event) (said : Reply) (actor : ℕ) → IsPair contents tally journal false sides a b → is_worded e ≡ true
-    → Done (row e said (state_of journal)) (both contents c d) left said → Counted (tally a) (tally c) → Counted (tally b) (tally d) → FaultRose said (both tally a b) (both tally c d)
+pub pair_goes_on : {V : Type 0} (contents : V → Contents) (tally : V → Tally) (journal : List Record) (sides left : Sides) (a b c d : V) (e : Event) (said : Reply) (actor : ℕ) → IsPair contents tally journal false sides a b → is_worded Pair e ≡ true
+    → Done (row Pair e said (state_of journal)) (both contents c d) left said → Counted (tally a) (tally c) → Counted (tally b) (tally d) → FaultRose said (both tally a b) (both tally c d)
     → IsPair contents tally (journal ++ made e said (both tally c d) actor ∷ []) false left c d
 pair_goes_on contents tally journal sides left a b c d e said actor pair worded done counts_a counts_b rose =
     let r : Record = made e said (both tally c d) actor in
-    let grows : Grows (state_of journal) (row e said (state_of journal)) = row_grows e said (state_of journal) in
+    let grows : Grows (state_of journal) (row Pair e said (state_of journal)) = row_grows Pair e said (state_of journal) in
     record {
       legal = legal-push journal r pair.legal (record {
         worded = worded;
         reply = done.reply_is;
-        a = still_covers (faults_of journal) A (tally a) (tally c) counts_a pair.covers_a;
-        b = still_covers (faults_of journal) B (tally b) (tally d) counts_b pair.covers_b;
+        counts = λ store. no_fewer store (faults_of journal) e said actor (both tally c d) (still_covers (faults_of journal A) (tally a) (tally c) counts_a pair.covers_a) (still_covers (faults_of journal B) (tally b) (tally d) counts_b pair.covers_b) (faults-third journal);
         told = tells_next said (faults_of journal) e said actor (both tally a b) (both tally c d) pair.covers_a pair.covers_b rose;
       });
       stand = λ _. subst (λ (m : Machine). AllStand (both contents c d) left m) (after_row (state_of journal) r ∙ sym (state-push journal r)) done.stand;
-      covers_a = subst (λ (n : Counts). Covers n A (tally c)) (sym (faults-push journal r)) (same_sum (tally c));
-      covers_b = subst (λ (n : Counts). Covers n B (tally d)) (sym (faults-push journal r)) (same_sum (tally d));
+      covers_a = subst (λ (n : Counts). Covers (n A) (tally c)) (sym (faults-push journal r)) (same_sum (tally c));
+      covers_b = subst (λ (n : Counts). Covers (n B) (tally d)) (sym (faults-push journal r)) (same_sum (tally d));
       few = subst (λ (m : Machine). length m.tickets ≤ length (journal ++ r ∷ [])) (after_row (state_of journal) r ∙ sym (state-push journal r))
-          (fewer (length (state_of journal).tickets) (length journal) (length (row e said (state_of journal)).state.tickets) (length (journal ++ r ∷ [])) (accepted (row e said (state_of journal)).reply) pair.few grows.tickets (at_most_one (row e said (state_of journal)).reply) (length-append journal (r ∷ [])));
+          (fewer (length (state_of journal).tickets) (length journal) (length (row Pair e said (state_of journal)).state.tickets) (length (journal ++ r ∷ [])) (accepted (row Pair e said (state_of journal)).reply) pair.few grows.tickets (at_most_one (row Pair e said (state_of journal)).reply) (length-append journal (r ∷ [])));
     }
 
 -- ---- what a step that failed leaves
@@ -118,8 +124,8 @@ pub pair_spent : {V : Type 0} (contents : V → Contents) (tally : V → Tally) 
 pair_spent contents tally journal spent sides left a b c d pair counts_a counts_b = record {
   legal = pair.legal;
   stand = λ e. absurd (true≢false e);
-  covers_a = still_covers (faults_of journal) A (tally a) (tally c) counts_a pair.covers_a;
-  covers_b = still_covers (faults_of journal) B (tally b) (tally d) counts_b pair.covers_b;
+  covers_a = still_covers (faults_of journal A) (tally a) (tally c) counts_a pair.covers_a;
+  covers_b = still_covers (faults_of journal B) (tally b) (tally d) counts_b pair.covers_b;
   few = pair.few;
 }
 
@@ -131,8 +137,8 @@ pair_stops contents tally journal false sides left a b c d pair kept counts_a co
   legal = pair.legal;
   stand = λ e. subst (λ (s : Sides). AllStand (both contents c d) s (state_of journal)) (sym (kept refl).0)
       (subst (λ (x : Both Contents). AllStand x sides (state_of journal)) (sym (kept refl).1) (pair.stand refl));
-  covers_a = still_covers (faults_of journal) A (tally a) (tally c) counts_a pair.covers_a;
-  covers_b = still_covers (faults_of journal) B (tally b) (tally d) counts_b pair.covers_b;
+  covers_a = still_covers (faults_of journal A) (tally a) (tally c) counts_a pair.covers_a;
+  covers_b = still_covers (faults_of journal B) (tally b) (tally d) counts_b pair.covers_b;
   few = pair.few;
 }
 

@@ -1,19 +1,16 @@
 -- Where memory and a store stand for a state, the store holds what it is to hold.
-use Rattle.std.proofs.Common.{ℕ, ◌≡◌, Bool, true, false, List, find, Option, Some, None, sym, subst}
+use Rattle.std.proofs.Common.{ℕ, ◌≡◌, Bool, true, false, List, map, find, Option, Some, None, sym, subst}
 use Rattle.rep_types.specs.declared.ids.Cluster.TheVariants.{A, B}
 use Rattle.rep_types.specs.declared.record.Record.{Record}
 use Rattle.rep_vault.specs.Tallies.{Tally}
-use Rattle.rep_model.specs.Keyed.{if_some}
-use Rattle.rep_model.specs.Runs.{state_of}
+use Rattle.rep_model.specs.Runs.{step_of, state_of, faults_of}
+use Rattle.rep_model.specs.State.{Pair, is_server}
 use Rattle.rep_model.specs.Words.{is_paired}
 use Rattle.rep_laws.specs.Settled.{IsSettled}
 use Rattle.rep_laws.proofs.Settling.{settled_state}
-use Rattle.cluster_core.specs.Lines.{lives}
-use Rattle.cluster_core.proofs.QueueLookups.{lives_is}
 use Rattle.pair_core.specs.Pair.{PairValue, IsPair, both}
 use Rattle.rep_types.specs.declared.ids.Cluster.{Cluster}
 use Rattle.rep_vault.specs.Contents.{Contents}
-use Rattle.rep_model.specs.State.{is_server, server_of}
 use Rattle.rep_model.specs.declared.machine.Machine.{Machine}
 use Rattle.rep_model.specs.declared.machine.Side.{Side}
 use Rattle.rep_model.specs.declared.machine.Server.{Server}
@@ -21,7 +18,7 @@ use Rattle.cluster_core.specs.declared.parts.ClusterCore.{ClusterCore}
 use Rattle.cluster_core.specs.declared.parts.Station.{Station}
 use Rattle.cluster_core.specs.Stands.{Stands, StationAt, is_station}
 use Rattle.pair_core.specs.declared.sides.Sides.{Sides}
-use Rattle.pair_core.specs.Sides.{Both, AllStand}
+use Rattle.pair_core.specs.Sides.{Both, AllStand, Covers}
 use Rattle.pair_core.specs.Stored.{LogsAt, Holds, Stored}
 
 logs_at : (c : Contents) (side : Side) (s : ℕ) (st : Option Station) (srv : Option Server) → StationAt c side s st srv → LogsAt c side s srv
@@ -50,16 +47,9 @@ stored_now contents tally p journal spent sides a b is pair =
 pub settled_now : {V : Type 0} (contents : V → Contents) (tally : V → Tally) (p : PairValue V) (journal : List Record) (spent : Bool) (sides : Sides) (a b : V) → p ≡ record { journal = journal; spent = spent; a = a; b = b }
     → IsPair contents tally journal spent sides a b → (c : Cluster) → is_paired c ≡ true → IsSettled c (state_of p.journal)
 settled_now contents tally p journal spent sides a b is pair c paired =
-    subst (λ (q : PairValue _). IsSettled c (state_of q.journal)) (sym is) (settled_state c journal paired pair.legal)
+    subst (λ (q : PairValue _). IsSettled c (state_of q.journal)) (sym is) (settled_state Pair (map step_of journal) c paired pair.legal)
 
-pub live_in_a : {V : Type 0} (contents : V → Contents) (tally : V → Tally) (p : PairValue V) (journal : List Record) (spent : Bool) (sides : Sides) (a b : V) (s : ℕ) → p ≡ record { journal = journal; spent = spent; a = a; b = b }
-    → IsPair contents tally journal spent sides a b → p.spent ≡ false → lives s sides.a.stations ≡ if_some (server_of A s (state_of p.journal)) (λ (srv : Server). srv.live)
-live_in_a contents tally p journal spent sides a b s is pair =
-    subst (λ (q : PairValue _). q.spent ≡ false → lives s sides.a.stations ≡ if_some (server_of A s (state_of q.journal)) (λ (srv : Server). srv.live)) (sym is)
-    (λ e. lives_is (contents a) (state_of journal).a s (find (is_station s) sides.a.stations) (find (is_server s) (state_of journal).a.servers) ((pair.stand e).a.servers s))
-
-pub live_in_b : {V : Type 0} (contents : V → Contents) (tally : V → Tally) (p : PairValue V) (journal : List Record) (spent : Bool) (sides : Sides) (a b : V) (s : ℕ) → p ≡ record { journal = journal; spent = spent; a = a; b = b }
-    → IsPair contents tally journal spent sides a b → p.spent ≡ false → lives s sides.b.stations ≡ if_some (server_of B s (state_of p.journal)) (λ (srv : Server). srv.live)
-live_in_b contents tally p journal spent sides a b s is pair =
-    subst (λ (q : PairValue _). q.spent ≡ false → lives s sides.b.stations ≡ if_some (server_of B s (state_of q.journal)) (λ (srv : Server). srv.live)) (sym is)
-    (λ e. lives_is (contents b) (state_of journal).b s (find (is_station s) sides.b.stations) (find (is_server s) (state_of journal).b.servers) ((pair.stand e).b.servers s))
+pub covered_now : {V : Type 0} (contents : V → Contents) (tally : V → Tally) (p : PairValue V) (journal : List Record) (spent : Bool) (sides : Sides) (a b : V) → p ≡ record { journal = journal; spent = spent; a = a; b = b }
+    → IsPair contents tally journal spent sides a b → Covers (faults_of p.journal A) (tally p.a) × Covers (faults_of p.journal B) (tally p.b)
+covered_now contents tally p journal spent sides a b is pair =
+    subst (λ (q : PairValue _). Covers (faults_of q.journal A) (tally q.a) × Covers (faults_of q.journal B) (tally q.b)) (sym is) (pair.covers_a, pair.covers_b)

@@ -1,15 +1,14 @@
 -- What a pair is seen as, and what it keeps.
 use Rattle.std.specs.Prelude.{◌≡◌, ◌≤◌, Bool, false, List, length, Result, Ok, Err}
 use Rattle.rep_types.specs.declared.ids.Cluster.{Cluster}
-use Rattle.rep_types.specs.declared.ids.Cluster.TheVariants.{A, B}
+use Rattle.rep_types.specs.declared.ids.Cluster.TheVariants.{A, B, C}
 use Rattle.rep_types.specs.declared.memory.Memory.{Memory}
 use Rattle.rep_types.specs.declared.record.Record.{Record}
 use Rattle.rep_vault.specs.Contents.{Contents}
 use Rattle.rep_vault.specs.Tallies.{Tally, PlansOne}
-use Rattle.rep_model.specs.State.{other}
 use Rattle.rep_model.specs.Runs.{IsLegal, state_of, faults_of}
 use Rattle.pair_core.specs.declared.sides.Sides.{Sides}
-use Rattle.pair_core.specs.Sides.{Both, of, AllStand, Covers}
+use Rattle.pair_core.specs.Sides.{Both, AllStand, Covers}
 
 -- the journal, whether memory ran out in the middle of a change, and the two stores
 pub record PairValue (V : Type 0) : Type 0 where
@@ -27,8 +26,8 @@ both f a b = record { a = f a; b = f b }
 pub record IsPair {V : Type 0} (contents : V → Contents) (tally : V → Tally) (journal : List Record) (spent : Bool) (sides : Sides) (a b : V) : Type 0 where
   pub legal : IsLegal journal
   pub stand : spent ≡ false → AllStand (both contents a b) sides (state_of journal)
-  pub covers_a : Covers (faults_of journal) A (tally a)
-  pub covers_b : Covers (faults_of journal) B (tally b)
+  pub covers_a : Covers (faults_of journal A) (tally a)
+  pub covers_b : Covers (faults_of journal B) (tally b)
   pub few : length (state_of journal).tickets ≤ length journal
 
 -- the journal and what the stores hold stay
@@ -37,7 +36,9 @@ pub record IsSame {V : Type 0} (contents : V → Contents) (old new : PairValue 
   pub spent : new.spent ≡ old.spent
   pub stores : both contents new.a new.b ≡ both contents old.a old.b
 
--- one more failure is planned in the cluster's store, unless memory ran out, and nothing in the other one
+-- one more failure is planned in the cluster's store, unless memory ran out, and nothing in the other one; a third cluster has no store
 abbrev pub IsPlanned : Cluster → Both Tally → Both Tally → Result (Unit {0}) Memory → Type 0
-IsPlanned c old new (Ok _) = PlansOne (of c old) (of c new) × (of (other c) new ≡ of (other c) old)
+IsPlanned A old new (Ok _) = PlansOne old.a new.a × (new.b ≡ old.b)
+IsPlanned B old new (Ok _) = PlansOne old.b new.b × (new.a ≡ old.a)
+IsPlanned C old new (Ok _) = new ≡ old
 IsPlanned c old new (Err _) = new ≡ old

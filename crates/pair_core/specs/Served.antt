@@ -1,7 +1,7 @@
 -- Which events a pair performs today, and in which cluster each is performed.
 use Rattle.std.specs.Prelude.{ℕ, Bool, true, false, List}
 use Rattle.rep_types.specs.declared.ids.Cluster.{Cluster}
-use Rattle.rep_types.specs.declared.ids.Cluster.TheVariants.{A}
+use Rattle.rep_types.specs.declared.ids.Cluster.TheVariants.{A, B, C}
 use Rattle.rep_types.specs.declared.event.Event.{Event}
 use Rattle.rep_types.specs.declared.event.Event.TheVariants as event
 use Rattle.rep_types.specs.declared.state.Kind.{Kind}
@@ -63,3 +63,9 @@ cluster_of flights (event.Send c p s n) = c
 cluster_of flights (event.Deliver f) = other (source_of f flights)
 cluster_of flights (event.Confirm f) = source_of f flights
 cluster_of flights _ = A
+
+-- the second of the two clusters
+abbrev pub is_b : Cluster → Bool
+is_b A = false
+is_b B = true
+is_b C = false

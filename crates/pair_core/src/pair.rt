@@ -1,20 +1,23 @@
 // Two clusters over two stores, and the journal of what happened to them.
 ghost use Rattle.std.specs.Prelude.{◌≡◌, ◌-◌, ◌^◌, ◌<◌, ◌≤◌, ◌++◌, ◌↔◌, [], ◌∷◌, false, true, length, IfSome, IfOk, OnOk, OnErr, MatchResult, IsErrOf};
+ghost use Rattle.rep_types.specs.declared.ids.Cluster.TheVariants as cluster;
 ghost use Rattle.rep_vault.specs.Contents.{new_contents};
 ghost use Rattle.rep_vault.specs.Tallies.{total};
 ghost use Rattle.rep_model.specs.Keyed.{if_some};
 ghost use Rattle.rep_model.specs.State.{server_of};
+ghost use Rattle.rep_model.specs.State as state;
 ghost use Rattle.rep_model.specs.Words.{is_paired, is_worded};
-ghost use Rattle.rep_model.specs.Runs.{IsLegal, state_of};
+ghost use Rattle.rep_model.specs.Runs.{IsLegal, state_of, faults_of};
 ghost use Rattle.rep_laws.specs.Settled.{IsSettled};
 ghost use Rattle.cluster_core.specs.Does.{Counts};
 ghost use Rattle.pair_core.specs.Pair.{both, IsSame, IsPlanned};
 ghost use Rattle.pair_core.specs.Performs.{changed_of, FaultRose};
 ghost use Rattle.pair_core.specs.Served.{is_served};
+ghost use Rattle.pair_core.specs.Sides.{Covers};
 ghost use Rattle.pair_core.specs.Stored.{Stored};
 
 use crate::performing::perform;
-use crate::sides::Sides;
+use crate::sides::{Sides, core_of};
 use cluster_core::{CoreError, is_live};
 use rep_types::{Call, Cluster, Duplicate, Event, Memory, Record, Reply, ServerId};
 use rep_vault::Vault;
@@ -112,7 +115,7 @@ impl<V: Vault> Pair<V> {
     /// One event: its reply, and the record of both.
     pub fn step(&mut self, alloc: Global, event: Event, actor: u16) -> Result<Reply, StepError>
         requires served { is_served event ≡ true }
-        requires worded { is_worded event ≡ true }
+        requires worded { is_worded state.Pair event ≡ true }
         ensures recorded { IfOk result (λ reply. self.new.journal ≡ self.old.journal
             ++ record { event = event; reply = reply; faults_a = total (V.tally self.new.a).faults; faults_b = total (V.tally self.new.b).faults; actor = actor } ∷ []) }
         ensures usable { OnOk result (self.new.spent ≡ false) }
@@ -166,18 +169,16 @@ impl<V: Vault> Pair<V> {
 
     /// Whether a server is there and lives.
     pub fn is_live(&self, cluster: Cluster, server: ServerId) -> bool
-        requires paired { is_paired cluster ≡ true }
         ensures { self.now.spent ≡ false → result ≡ if_some (server_of cluster server (state_of self.now.journal)) (λ srv. srv.live) }
     {
-        match cluster {
-            Cluster::A => is_live(&self.sides.a.stations, server),
-            Cluster::B => is_live(&self.sides.b.stations, server),
-            Cluster::C => unreachable!(),
+        match core_of(&self.sides, cluster) {
+            Some(core) => is_live(&core.stations, server),
+            None => false,
         }
     }
 
     /// Asks that the `nth` next call of a kind fail in the cluster's store, and an append leave the first `bytes` of its
-    /// piece.
+    /// piece. Of a cluster that isn't one of the two nothing is asked.
     pub fn plan_failure(
         &mut self,
         cluster: Cluster,
@@ -185,7 +186,6 @@ impl<V: Vault> Pair<V> {
         nth: u32,
         bytes: u32,
     ) -> Result<(), Memory>
-        requires paired { is_paired cluster ≡ true }
         requires nth { 1 ≤ nth }
         requires room_a { IfSome (V.tally self.old.a).planned (λ n. n < 2 ^ 32 - 1) }
         requires room_b { IfSome (V.tally self.old.b).planned (λ n. n < 2 ^ 32 - 1) }
@@ -195,20 +195,20 @@ impl<V: Vault> Pair<V> {
         match cluster {
             Cluster::A => self.a.plan_failure(call, nth, bytes),
             Cluster::B => self.b.plan_failure(call, nth, bytes),
-            Cluster::C => unreachable!(),
+            Cluster::C => Ok(()),
         }
     }
 
-    /// Asks that the next seal of an unsealed file in the cluster's store keep so many bytes of what isn't synced.
+    /// Asks that the next seal of an unsealed file in the cluster's store keep so many bytes of what isn't synced. Of a
+    /// cluster that isn't one of the two nothing is asked.
     pub fn plan_keep(&mut self, cluster: Cluster, bytes: u64) -> Result<(), Memory>
-        requires paired { is_paired cluster ≡ true }
         ensures same { IsSame V.contents self.old self.new }
         ensures counts { both V.tally self.new.a self.new.b ≡ both V.tally self.old.a self.old.b }
     {
         match cluster {
             Cluster::A => self.a.plan_keep(bytes),
             Cluster::B => self.b.plan_keep(bytes),
-            Cluster::C => unreachable!(),
+            Cluster::C => Ok(()),
         }
     }
 
@@ -217,6 +217,9 @@ impl<V: Vault> Pair<V> {
         ensures value { result ≡ record { a = self.a; b = self.b } }
         ensures legal { IsLegal self.journal }
         ensures stored { self.spent ≡ false → Stored (both V.contents self.a self.b) (state_of self.journal) }
+        // No record tells more faults of a store than it has counted: the last tells the most.
+        ensures covers_a { Covers (faults_of self.journal cluster.A) (V.tally self.a) }
+        ensures covers_b { Covers (faults_of self.journal cluster.B) (V.tally self.b) }
     {
         Stores {
             a: self.a,

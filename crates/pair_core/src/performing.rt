@@ -3,9 +3,9 @@ ghost use Rattle.std.specs.Prelude.{◌≡◌, ◌+◌, ◌-◌, ◌^◌, ◌<�
 ghost use Rattle.rep_types.specs.declared.ids.Cluster.TheVariants as cluster;
 ghost use Rattle.rep_types.specs.declared.event.Event.TheVariants as event;
 ghost use Rattle.rep_types.specs.declared.state.Kind.TheVariants as kind;
-ghost use Rattle.rep_model.specs.State.{of, other};
+ghost use Rattle.rep_model.specs.State.{Route, Pair, of, dest};
 ghost use Rattle.rep_vault.specs.Contents.{Contents};
-ghost use Rattle.rep_model.specs.Words.{is_worded};
+ghost use Rattle.rep_model.specs.Words.{are_cells, is_in, is_worded};
 ghost use Rattle.rep_model.specs.declared.machine.Machine.{Machine};
 ghost use Rattle.cluster_core.specs.Memory.{map_of};
 ghost use Rattle.cluster_core.specs.Stands.{Stands};
@@ -15,7 +15,7 @@ ghost use Rattle.pair_core.specs.Sides.{Standing as AllStanding, AllStand, IsHer
 ghost use Rattle.pair_core.specs.Pair.{both};
 ghost use Rattle.pair_core.specs.Performs.{Performs, FaultRose};
 
-use crate::sides::{Sides, accepted, cluster_of};
+use crate::sides::{Sides, accepted, cluster_of, destination, is_b};
 use arrival_events::deliver;
 use cluster_core::{ClusterCore, CoreError, Sent};
 use log_events::{roll, seal, sync};
@@ -25,9 +25,7 @@ use read_events::{get, show};
 use recovery_events::recover;
 use region_events::{close_begin, close_end, open_begin, open_end, table};
 use region_meta::RegionMap;
-use rep_types::{
-    Cells, Cluster, Duplicate, Event, Families, Items, Key, Kind, Name, Names, PeerId, Reply,
-};
+use rep_types::{Cells, Duplicate, Event, Families, Items, Key, Kind, Name, Names, PeerId, Reply};
 use rep_vault::Vault;
 use server_events::{crash, server};
 use std::alloc::Global;
@@ -42,8 +40,9 @@ fn make_table<V: Vault>(
     families: &Families,
 ) -> Result<Reply, CoreError>
     requires { Standing core.old.own (V.contents own.old) core.old }
-    ensures does { (m : Machine) → Reached m → Stands core.old.own (V.contents own.old) core.old (of core.old.own m)
-        → Answers core.old.own (event.Table core.old.own name.now families.now) m (V.contents own.old) core.old (V.contents own.new) core.new result }
+    ensures does { (way : Route) (m : Machine) → Reached way m → is_in way core.old.own ≡ true
+        → Stands core.old.own (V.contents own.old) core.old (of core.old.own m)
+        → Answers way core.old.own (event.Table core.old.own name.now families.now) m (V.contents own.old) core.old (V.contents own.new) core.new result }
     ensures counts { Counts (V.tally own.old) (V.tally own.new) }
     ensures told { IfOk result (λ reply. FaultTold core.old.own reply (V.tally own.old) (V.tally own.new)) }
 {
@@ -67,9 +66,10 @@ fn put_cells<V: Vault>(
     ticket: u32,
 ) -> Result<Reply, CoreError>
     requires standing { Standing core.old.own (V.contents own.old) core.old }
-    requires worded { is_worded (event.Put core.old.own table.now row.now cells.now) ≡ true }
-    ensures does { (m : Machine) → Reached m → Stands core.old.own (V.contents own.old) core.old (of core.old.own m) → ticket ≡ length m.tickets + 1
-        → Answers core.old.own (event.Put core.old.own table.now row.now cells.now) m (V.contents own.old) core.old (V.contents own.new) core.new result }
+    requires worded { are_cells cells.now ≡ true }
+    ensures does { (way : Route) (m : Machine) → Reached way m → is_in way core.old.own ≡ true
+        → Stands core.old.own (V.contents own.old) core.old (of core.old.own m) → ticket ≡ length m.tickets + 1
+        → Answers way core.old.own (event.Put core.old.own table.now row.now cells.now) m (V.contents own.old) core.old (V.contents own.new) core.new result }
     ensures counts { Counts (V.tally own.old) (V.tally own.new) }
     ensures told { IfOk result (λ reply. FaultTold core.old.own reply (V.tally own.old) (V.tally own.new)) }
 {
@@ -89,8 +89,9 @@ fn add_peer<V: Vault>(
     tables: &Names,
 ) -> Result<Reply, CoreError>
     requires { Standing core.old.own (V.contents own.old) core.old }
-    ensures does { (m : Machine) → Reached m → Stands core.old.own (V.contents own.old) core.old (of core.old.own m) → beside.now ≡ map_of (of (other core.old.own) m)
-        → Answers core.old.own (event.Peer core.old.own number kind.Plain tables.now) m (V.contents own.old) core.old (V.contents own.new) core.new result }
+    ensures does { (way : Route) (m : Machine) → Reached way m → is_in way core.old.own ≡ true
+        → Stands core.old.own (V.contents own.old) core.old (of core.old.own m) → beside.now ≡ map_of (of (dest way core.old.own) m)
+        → Answers way core.old.own (event.Peer core.old.own number kind.Plain tables.now) m (V.contents own.old) core.old (V.contents own.new) core.new result }
     ensures counts { Counts (V.tally own.old) (V.tally own.new) }
     ensures told { IfOk result (λ reply. FaultTold core.old.own reply (V.tally own.old) (V.tally own.new)) }
 {
@@ -112,11 +113,11 @@ fn on_side<V: Vault>(
 ) -> Result<Reply, CoreError>
     requires standing { (m : Machine) × IsHere core.old.own (V.contents own.old) core.old beside.now flights.old tickets m }
     requires served { is_served event.now ≡ true }
-    requires worded { is_worded event.now ≡ true }
+    requires worded { is_worded Pair event.now ≡ true }
     requires here { cluster_of flights.old event.now ≡ core.old.own }
     requires room { tickets < 2 ^ 32 - 1 }
     ensures does { (m : Machine) → IsHere core.old.own (V.contents own.old) core.old beside.now flights.old tickets m
-        → FliesOr core.old.own event.now m (V.contents own.old) core.old flights.old (V.contents own.new) core.new flights.new result }
+        → FliesOr Pair core.old.own event.now m (V.contents own.old) core.old flights.old (V.contents own.new) core.new flights.new result }
     ensures counts { Counts (V.tally own.old) (V.tally own.new) }
     ensures told { IfOk result (λ reply. FaultTold core.old.own reply (V.tally own.old) (V.tally own.new)) }
 {
@@ -155,7 +156,10 @@ fn on_side<V: Vault>(
             server,
             most,
             ..
-        } => send(core, alloc, own, flights, *peer, *server, *most),
+        } => {
+            let to = destination(core.own);
+            send(core, alloc, own, to, flights, *peer, *server, *most)
+        }
         Event::Deliver { flight } => deliver(core, alloc, own, flights, *flight),
         Event::Confirm { flight } => confirm(core, flights, *flight),
         _ => unreachable!(),
@@ -171,10 +175,10 @@ fn in_a<V: Vault>(
 ) -> Result<Reply, CoreError>
     requires standing { (c : Contents) × AllStanding (record { a = V.contents own.old; b = c }) sides.old }
     requires served { is_served event.now ≡ true }
-    requires worded { is_worded event.now ≡ true }
+    requires worded { is_worded Pair event.now ≡ true }
     requires here { cluster_of sides.old.flights event.now ≡ cluster.A }
     requires room { sides.old.tickets < 2 ^ 32 - 1 }
-    ensures does { (c : Contents) (m : Machine) → Reached m → AllStand (record { a = V.contents own.old; b = c }) sides.old m
+    ensures does { (c : Contents) (m : Machine) → Reached Pair m → AllStand (record { a = V.contents own.old; b = c }) sides.old m
         → Performs event.now m (record { a = V.contents own.old; b = c }) sides.old (record { a = V.contents own.new; b = c }) sides.new result }
     ensures counts { Counts (V.tally own.old) (V.tally own.new) }
     ensures told { IfOk result (λ reply. FaultTold cluster.A reply (V.tally own.old) (V.tally own.new)) }
@@ -202,10 +206,10 @@ fn in_b<V: Vault>(
 ) -> Result<Reply, CoreError>
     requires standing { (c : Contents) × AllStanding (record { a = c; b = V.contents own.old }) sides.old }
     requires served { is_served event.now ≡ true }
-    requires worded { is_worded event.now ≡ true }
+    requires worded { is_worded Pair event.now ≡ true }
     requires here { cluster_of sides.old.flights event.now ≡ cluster.B }
     requires room { sides.old.tickets < 2 ^ 32 - 1 }
-    ensures does { (c : Contents) (m : Machine) → Reached m → AllStand (record { a = c; b = V.contents own.old }) sides.old m
+    ensures does { (c : Contents) (m : Machine) → Reached Pair m → AllStand (record { a = c; b = V.contents own.old }) sides.old m
         → Performs event.now m (record { a = c; b = V.contents own.old }) sides.old (record { a = c; b = V.contents own.new }) sides.new result }
     ensures counts { Counts (V.tally own.old) (V.tally own.new) }
     ensures told { IfOk result (λ reply. FaultTold cluster.B reply (V.tally own.old) (V.tally own.new)) }
@@ -234,17 +238,17 @@ pub fn perform<V: Vault>(
 ) -> Result<Reply, CoreError>
     requires standing { AllStanding (both V.contents a.old b.old) sides.old }
     requires served { is_served event.now ≡ true }
-    requires worded { is_worded event.now ≡ true }
+    requires worded { is_worded Pair event.now ≡ true }
     requires room { sides.old.tickets < 2 ^ 32 - 1 }
-    ensures does { (m : Machine) → Reached m → AllStand (both V.contents a.old b.old) sides.old m
+    ensures does { (m : Machine) → Reached Pair m → AllStand (both V.contents a.old b.old) sides.old m
         → Performs event.now m (both V.contents a.old b.old) sides.old (both V.contents a.new b.new) sides.new result }
     ensures counts_a { Counts (V.tally a.old) (V.tally a.new) }
     ensures counts_b { Counts (V.tally b.old) (V.tally b.new) }
     ensures told { IfOk result (λ reply. FaultRose reply (both V.tally a.old b.old) (both V.tally a.new b.new)) }
 {
-    match cluster_of(&sides.flights, event) {
-        Cluster::A => in_a(sides, alloc, a, event),
-        Cluster::B => in_b(sides, alloc, b, event),
-        Cluster::C => unreachable!(),
+    if is_b(cluster_of(&sides.flights, event)) {
+        in_b(sides, alloc, b, event)
+    } else {
+        in_a(sides, alloc, a, event)
     }
 }

@@ -1,9 +1,10 @@
 // Both clusters in memory.
 ghost use Rattle.std.specs.Prelude.{◌≡◌, IfOk};
+ghost use Rattle.std.specs.Option.{option_copied};
 ghost use Rattle.rep_laws.specs.Growing.{accepted};
 ghost use Rattle.rep_model.specs.State.{other};
-ghost use Rattle.pair_core.specs.Sides.{empty_sides};
-ghost use Rattle.pair_core.specs.Served.{source_of, cluster_of};
+ghost use Rattle.pair_core.specs.Sides.{core_of, empty_sides};
+ghost use Rattle.pair_core.specs.Served.{source_of, cluster_of, is_b};
 
 use cluster_core::{ClusterCore, Sent};
 use queue_events::find_sent;
@@ -33,6 +34,17 @@ impl Sides {
     }
 }
 
+/// A cluster of the pair in memory.
+pub fn core_of(sides: &Sides, cluster: Cluster) -> Option<&ClusterCore>
+    ensures { option_copied result ≡ core_of cluster sides.now }
+{
+    match cluster {
+        Cluster::A => Some(&sides.a),
+        Cluster::B => Some(&sides.b),
+        Cluster::C => None,
+    }
+}
+
 /// How many tickets a reply gives.
 pub fn accepted(reply: &Reply) -> u32
     ensures { result ≡ accepted reply.now }
@@ -54,15 +66,22 @@ fn source_of(flights: &Items<Sent>, flight: u32) -> Cluster
     }
 }
 
-// Where the flights of a cluster arrive.
-fn destination(source: Cluster) -> Cluster
+/// Where the flights of a cluster arrive.
+pub fn destination(source: Cluster) -> Cluster
     ensures { result ≡ other source }
 {
     match source {
         Cluster::A => Cluster::B,
         Cluster::B => Cluster::A,
-        Cluster::C => Cluster::A,
+        Cluster::C => Cluster::C,
     }
+}
+
+/// Whether it is the second of the two.
+pub fn is_b(cluster: Cluster) -> bool
+    ensures { result ≡ is_b cluster }
+{
+    matches!(cluster, Cluster::B)
 }
 
 /// Where an event is performed.

@@ -1,41 +1,28 @@
 // What is seen of a pair, without a store call.
-ghost use Rattle.std.specs.Prelude.{◌≡◌, ℕ, ◌<◌, false, true, None, length, IfOk};
+ghost use Rattle.std.specs.Prelude.{◌≡◌, ℕ, ◌<◌, false, None, length, IfOk};
 ghost use Rattle.rep_model.specs.State.{of};
-ghost use Rattle.rep_model.specs.Words.{is_paired};
 ghost use Rattle.rep_model.specs.Runs.{state_of};
 ghost use Rattle.core_views.specs.Views.{queue_seen, region_seen};
-ghost use Rattle.pair_core.specs.Sides.{core_of};
 ghost use Rattle.pair_core.specs.Views.{status_seen};
 
 use crate::pair::Pair;
-use crate::sides::Sides;
-use cluster_core::ClusterCore;
+use crate::sides::core_of;
 use core_views::{queue_view, region_count, region_line, side_line};
 use rep_types::{Cluster, Memory, PeerId, QueueView, RegionId, RegionLine, ServerId, StatusLine};
 use rep_vault::Vault;
 use std::alloc::Global;
-
-// A cluster in memory.
-fn core_of(sides: &Sides, cluster: Cluster) -> &ClusterCore
-    requires { is_paired cluster ≡ true }
-    ensures { result.now ≡ core_of cluster sides.now }
-{
-    match cluster {
-        Cluster::A => &sides.a,
-        Cluster::B => &sides.b,
-        Cluster::C => unreachable!(),
-    }
-}
 
 impl<V: Vault> Pair<V> {
     /// A peer's queue for the logs of a server: its owner, how many commits are left in it, and its
     /// outstanding flight. None where the peer wasn't added or is removed, or has no such queue. It
     /// costs the search for them.
     pub fn queue_view(&self, cluster: Cluster, peer: PeerId, server: ServerId) -> Option<QueueView>
-        requires paired { is_paired cluster ≡ true }
         ensures seen { self.now.spent ≡ false → result ≡ queue_seen peer server (of cluster (state_of self.now.journal)) }
     {
-        queue_view(core_of(&self.sides, cluster), peer, server)
+        match core_of(&self.sides, cluster) {
+            Some(core) => queue_view(core, peer, server),
+            None => None,
+        }
     }
 
     /// A region as it is printed, with its barriers; a final one where it is Gone. None where there is
@@ -46,19 +33,23 @@ impl<V: Vault> Pair<V> {
         cluster: Cluster,
         region: RegionId,
     ) -> Result<Option<RegionLine>, Memory>
-        requires paired { is_paired cluster ≡ true }
         ensures seen { self.now.spent ≡ false → IfOk result (λ line. line ≡ region_seen cluster region (of cluster (state_of self.now.journal))) }
     {
-        region_line(core_of(&self.sides, cluster), alloc, region)
+        match core_of(&self.sides, cluster) {
+            Some(core) => region_line(core, alloc, region),
+            None => Ok(None),
+        }
     }
 
     /// How many regions a cluster has, those that are Gone too: they have the numbers from 1 on.
     pub fn region_count(&self, cluster: Cluster) -> usize
-        requires paired { is_paired cluster ≡ true }
         ensures count { self.now.spent ≡ false → result ≡ length (of cluster (state_of self.now.journal)).regions }
         ensures above { self.now.spent ≡ false → (r : ℕ) → result < r → region_seen cluster r (of cluster (state_of self.now.journal)) ≡ None }
     {
-        region_count(core_of(&self.sides, cluster))
+        match core_of(&self.sides, cluster) {
+            Some(core) => region_count(core),
+            None => 0,
+        }
     }
 
     /// Both clusters, the number of flights, and how many records there are. It costs a search for
