@@ -1,7 +1,6 @@
 // The lines of a cluster's queues.
-ghost use Rattle.std.specs.Prelude.{◌≡◌, ◌+◌, ◌++◌, ◌<◌, false, true, OnOk};
+ghost use Rattle.std.specs.Prelude.{◌≡◌, ◌+◌, ◌++◌, ◌<◌, false, OnOk};
 ghost use Rattle.rep_model.specs.Runs.{state_of};
-ghost use Rattle.rep_model.specs.Words.{is_paired};
 ghost use Rattle.script_lines.specs.Shown.{queue_shown};
 ghost use Rattle.script_lines.specs.Views.{peer_text, queues_text};
 
@@ -37,7 +36,6 @@ fn server_line<V: Vault>(
     pair: &Pair<V>,
     out: &mut Vec<u8>,
 ) -> Result<(), Memory>
-    requires paired { is_paired cluster ≡ true }
     ensures text { pair.now.spent ≡ false → OnOk result (out.new.items ≡ out.old.items ++ queue_shown cluster (state_of pair.now.journal) peer server) }
 {
     match pair.queue_view(cluster, peer, server) {
@@ -52,7 +50,6 @@ fn peer_lines<V: Vault>(
     pair: &Pair<V>,
     out: &mut Vec<u8>,
 ) -> Result<(), Memory>
-    requires paired { is_paired cluster ≡ true }
     ensures text { pair.now.spent ≡ false → OnOk result (out.new.items ≡ out.old.items ++ peer_text cluster (state_of pair.now.journal) peer) }
 {
     for at in 0..64u32 {
@@ -67,7 +64,6 @@ pub fn queue_lines<V: Vault>(
     pair: &Pair<V>,
     out: &mut Vec<u8>,
 ) -> Result<(), Memory>
-    requires paired { is_paired cluster ≡ true }
     ensures text { pair.now.spent ≡ false → OnOk result (out.new.items ≡ out.old.items ++ queues_text cluster (state_of pair.now.journal)) }
 {
     for at in 0..4u32 {

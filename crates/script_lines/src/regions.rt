@@ -1,7 +1,6 @@
 // The lines of a cluster's regions.
-ghost use Rattle.std.specs.Prelude.{◌≡◌, ◌+◌, ◌++◌, ◌<◌, false, true, OnOk};
+ghost use Rattle.std.specs.Prelude.{◌≡◌, ◌+◌, ◌++◌, ◌<◌, false, OnOk};
 ghost use Rattle.rep_model.specs.Runs.{state_of};
-ghost use Rattle.rep_model.specs.Words.{is_paired};
 ghost use Rattle.script_lines.specs.Views.{numbered_text, regions_text};
 
 use pair_core::Pair;
@@ -27,7 +26,6 @@ fn numbered_line<V: Vault>(
     pair: &Pair<V>,
     out: &mut Vec<u8>,
 ) -> Result<(), Memory>
-    requires paired { is_paired cluster ≡ true }
     ensures text { pair.now.spent ≡ false → OnOk result (out.new.items ≡ out.old.items ++ numbered_text cluster (state_of pair.now.journal) region) }
 {
     match pair.region_line(alloc, cluster, region)? {
@@ -43,7 +41,6 @@ pub fn region_lines<V: Vault>(
     pair: &Pair<V>,
     out: &mut Vec<u8>,
 ) -> Result<(), Memory>
-    requires paired { is_paired cluster ≡ true }
     ensures text { pair.now.spent ≡ false → OnOk result (out.new.items ≡ out.old.items ++ regions_text cluster (state_of pair.now.journal)) }
 {
     let last = pair.region_count(cluster).min(4096) as u32;

@@ -1,6 +1,5 @@
-ghost use Rattle.std.specs.Prelude.{◌≡◌, ◌++◌, false, true, length, OnOk};
+ghost use Rattle.std.specs.Prelude.{◌≡◌, ◌++◌, false, length, OnOk};
 ghost use Rattle.rep_model.specs.Runs.{state_of};
-ghost use Rattle.script_lines.specs.Shown.{is_shown};
 ghost use Rattle.script_lines.specs.Views.{view_text};
 
 use crate::queues::queue_lines;
@@ -22,7 +21,6 @@ pub fn print_view<V: Vault>(
     pair: &Pair<V>,
     out: &mut Vec<u8>,
 ) -> Result<(), Memory>
-    requires shown { is_shown command.now ≡ true }
     ensures text { pair.now.spent ≡ false → OnOk result (out.new.items ≡ out.old.items
         ++ view_text command.now (length pair.now.journal) (state_of pair.now.journal)) }
 {
