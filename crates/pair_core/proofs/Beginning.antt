@@ -1,11 +1,11 @@
 -- Nothing in memory and a store as new stand for the opening.
-use Rattle.std.proofs.Common.{◌≡◌, ◌≤◌, inl, true, false, [], length, refl, sym, subst, arith}
+use Rattle.std.proofs.Common.{◌≡◌, ◌≤◌, inl, false, [], length, refl, sym, subst, arith}
 use Rattle.rep_types.specs.declared.ids.Cluster.{Cluster}
 use Rattle.rep_types.specs.declared.ids.Cluster.TheVariants.{A, B}
 use Rattle.rep_vault.specs.Contents.{Contents, new_contents}
 use Rattle.rep_vault.specs.Tallies.{Tally}
 use Rattle.rep_model.specs.State.{empty_side}
-use Rattle.rep_model.specs.Runs.{no_faults, Counts}
+use Rattle.rep_model.specs.Runs.{Counts}
 use Rattle.rep_model.specs.declared.machine.Machine.{Machine}
 use Rattle.cluster_core.specs.Texts.{RecordKey, OfTable, OfRegion, OfBarriers, OfServer, OfPeer}
 use Rattle.cluster_core.specs.Stands.{Stands, RecordAt, empty_core}

@@ -1,5 +1,5 @@
 -- A legal journal of a pair goes on by one record, and tells no faults of a third store.
-use Rattle.std.proofs.Common.{ℕ, ◌≡◌, List, [], ◌∷◌, ◌++◌, map, refl}
+use Rattle.std.proofs.Common.{◌≡◌, List, [], ◌∷◌, ◌++◌, map, refl}
 use Rattle.rep_types.specs.declared.ids.Cluster.TheVariants.{C}
 use Rattle.rep_types.specs.declared.record.Record.{Record}
 use Rattle.rep_model.specs.State.{Pair, opening}

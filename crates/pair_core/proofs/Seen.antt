@@ -1,5 +1,5 @@
 -- One cluster's event, seen from both.
-use Rattle.std.proofs.Common.{ℕ, ◌+◌, ◌-◌, ◌^◌, ◌<◌, ◌≤◌, ◌≡◌, Err, min, arith, true, Option, Some, None, List, map, length, refl, sym, ap, ◌∙◌, subst}
+use Rattle.std.proofs.Common.{ℕ, ◌+◌, ◌-◌, ◌^◌, ◌<◌, ◌≤◌, ◌≡◌, Ok, Err, Result, min, arith, true, false, Option, Some, None, List, map, length, refl, sym, ap, ◌∙◌, subst}
 use Rattle.std.proofs.lemmas.Bool.{false≢true, true≢false, and_parts}
 use Rattle.std.specs.Prelude.{IfSome}
 use Rattle.std.specs.Option.{option_map}
@@ -7,6 +7,8 @@ use Rattle.rep_types.specs.declared.ids.Cluster.{Cluster}
 use Rattle.rep_types.specs.declared.ids.Cluster.TheVariants.{A, B, C}
 use Rattle.rep_types.specs.declared.event.Event.{Event}
 use Rattle.rep_types.specs.declared.event.Event.TheVariants as event
+use Rattle.rep_types.specs.declared.state.Kind.{Kind}
+use Rattle.rep_types.specs.declared.state.Kind.TheVariants.{Plain, Serial, Synchronous}
 use Rattle.rep_types.specs.declared.reply.Reply.{Reply}
 use Rattle.rep_types.specs.declared.reply.Reply.TheVariants as reply
 use Rattle.std.specs.List.{AllByRecursion}
@@ -31,12 +33,12 @@ use Rattle.cluster_core.specs.declared.parts.CoreError.{CoreError}
 use Rattle.cluster_core.specs.declared.parts.CoreError.TheVariants as failed
 use Rattle.cluster_core.specs.Stands.{Stands}
 use Rattle.cluster_core.specs.Entries.{entry_of}
-use Rattle.cluster_core.specs.Does.{Reached, Flies, FliesOr, sent_of}
+use Rattle.cluster_core.specs.Does.{Reached, Answers, Flies, FliesOr, sent_of}
 use Rattle.arrival_events.specs.Delivering.{IsFor, IsSink}
 use Rattle.queue_events.specs.Flights.{IsFrom}
 use Rattle.queue_events.proofs.Known.{sent_is}
 use Rattle.pair_core.specs.declared.sides.Sides.{Sides}
-use Rattle.pair_core.specs.Served.{source_of, cluster_of, is_b}
+use Rattle.pair_core.specs.Served.{is_plain, source_of, cluster_of, is_b}
 use Rattle.pair_core.specs.Sides.{Both, AllStand, Standing, IsHere}
 use Rattle.pair_core.specs.Performs.{Done, Performs}
 
@@ -70,6 +72,23 @@ done_in_b e said m stores sides c core flights tickets stand flies more = record
     tickets = more_tickets e said m sides.tickets tickets stand.tickets more flies.reply_is;
   };
 }
+
+-- an event that isn't one of flights leaves them as they are
+flies_too : (own : Cluster) (e : Event) (m : Machine) (old : Contents) (core : ClusterCore) (flights : List Sent) (new : Contents) (core' : ClusterCore) (r : Result Reply CoreError) → flights ≡ map (sent_of Pair) m.flights
+    → Answers Pair own e m old core new core' r → FliesOr Pair own e m old core flights new core' flights r
+flies_too own e m old core flights new core' (Ok said) are does = record { reply_is = does.reply_is; stands = does.stands; beside = does.beside; flights_are = are ∙ ap (map (sent_of Pair)) (sym does.flights) }
+flies_too own e m old core flights new core' (Err (failed.Memory changed)) are does = λ e. let kept = does e in (kept.0, kept.1, refl)
+
+-- the same of an event of this cluster
+pub told_here : (own : Cluster) (make : Cluster → Event) (e : Event) (d : Cluster) (m : Machine) (old : Contents) (core : ClusterCore) (flights : List Sent) (new : Contents) (core' : ClusterCore) (r : Result Reply CoreError) → e ≡ make d → d ≡ own
+    → flights ≡ map (sent_of Pair) m.flights → Answers Pair own (make own) m old core new core' r → FliesOr Pair own e m old core flights new core' flights r
+told_here own make e d m old core flights new core' r is here are does =
+    subst (λ (x : Event). FliesOr Pair own x m old core flights new core' flights r) (sym (is ∙ ap make here)) (flies_too own (make own) m old core flights new core' r are does)
+
+pub plain_only : (k : Kind) → is_plain k ≡ true → k ≡ Plain
+plain_only Plain e = refl
+plain_only Serial e = absurd (false≢true e)
+plain_only Synchronous e = absurd (false≢true e)
 
 -- ---- flights
 

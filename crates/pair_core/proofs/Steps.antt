@@ -25,7 +25,7 @@ use Rattle.cluster_core.specs.declared.parts.CoreError.TheVariants as failed
 use Rattle.cluster_core.specs.Does.{Counts as Counted, Reached}
 use Rattle.pair_core.specs.declared.sides.Sides.{Sides}
 use Rattle.pair_core.specs.Sides.{Both, AllStand, Covers}
-use Rattle.pair_core.specs.Performs.{Done, Performs, changed_of, Rose, RoseIn, FaultRose}
+use Rattle.pair_core.specs.Performs.{Done, Performs, changed_of, RoseIn, FaultRose}
 use Rattle.pair_core.specs.Pair.{IsPair, both}
 use Rattle.pair_core.proofs.Runs.{legal-push, state-push, faults-push, faults-third}
 use Rattle.pair_core.proofs.Seen.{at_most_one}

@@ -1,5 +1,5 @@
 -- What memory says of a cluster is what the state after the pair's journal says.
-use Rattle.std.proofs.Common.{ℕ, ◌≡◌, Bool, true, false, List, length, map, Option, Some, None, refl, ap, sym, ◌∙◌, subst}
+use Rattle.std.proofs.Common.{ℕ, ◌≡◌, Bool, true, false, List, length, map, Some, None, refl, ap, sym, ◌∙◌, subst}
 use Rattle.std.proofs.lemmas.List.{length-map}
 use Rattle.std.proofs.lemmas.Option.{none-some, same_Some}
 use Rattle.rep_types.specs.declared.ids.Cluster.{Cluster}

@@ -19,7 +19,10 @@ impl<V: Vault> Pair<V> {
     pub fn queue_view(&self, cluster: Cluster, peer: PeerId, server: ServerId) -> Option<QueueView>
         ensures seen { self.now.spent ≡ false → result ≡ queue_seen peer server (of cluster (state_of self.now.journal)) }
     {
-        queue_view(core_of(&self.sides, cluster)?, peer, server)
+        match core_of(&self.sides, cluster) {
+            Some(core) => queue_view(core, peer, server),
+            None => None,
+        }
     }
 
     /// A region as it is printed, with its barriers; a final one where it is Gone. None where there is
