@@ -1,5 +1,5 @@
 -- What a delivery does to its host.
-use Rattle.std.specs.Prelude.{ℕ, ◌≡◌, ◌≤◌, List, ◌++◌, Option, None, Some, Result, Ok, Err, length, take, map, slice_get, IsPermutation, IsSorted}
+use Rattle.std.specs.Prelude.{ℕ, ◌≡◌, ◌≤◌, List, ◌++◌, None, Some, Result, Ok, Err, length, take, map, slice_get, IsPermutation, IsSorted}
 use Rattle.std.specs.Ordering.{nat_cmp}
 use Rattle.rep_types.specs.declared.entry.Entry.{Entry}
 use Rattle.rep_types.specs.declared.memory.Memory.{Memory}
