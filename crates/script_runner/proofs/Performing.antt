@@ -1,5 +1,5 @@
 -- A command goes on by one event.
-use Rattle.std.proofs.Common.{◌≡◌, List, [], ◌∷◌, ◌++◌, map, Some, None, Result, Ok, Err, OnOk, refl, sym, ap, ◌∙◌, append_assoc}
+use Rattle.std.proofs.Common.{◌≡◌, List, [], ◌∷◌, ◌++◌, map, Some, None, refl, sym, ap, ◌∙◌, append_assoc}
 use Rattle.std.proofs.lemmas.List.{append-nil, map-append}
 use Rattle.rep_types.specs.declared.reply.Reply.{Reply}
 use Rattle.rep_types.specs.declared.record.Record.{Record}
@@ -41,12 +41,3 @@ SoFar-push c m before now next replies more r so_far e a n k =
 
 pub SoFar-end : (c : Command) (m : Machine) (before now : List Record) (replies : List Reply) (so_far : SoFar c m before now replies) → due c m so_far.own ≡ None → (own : List Record) × (now ≡ before ++ own) × Does c m [] own
 SoFar-end c m before now replies so_far e = (so_far.own, so_far.grown, does-end c m [] so_far.own so_far.events e)
-
--- a command without events
-pub no-events : (c : Command) (m : Machine) (old new : List Record) → new ≡ old → due c m [] ≡ None → (own : List Record) × (new ≡ old ++ own) × Does c m [] own
-no-events c m old new same e = ([], same ∙ sym (append-nil old), e)
-
--- what holds whatever is answered
-pub always : {T E P : Type 0} (r : Result T E) → P → OnOk r P
-always (Ok x) p = p
-always (Err e) p = tt

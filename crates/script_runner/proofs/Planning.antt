@@ -1,18 +1,12 @@
 -- What a script has planned for a store, command by command.
-use Rattle.std.proofs.Common.{ℕ, ◌+◌, ◌-◌, ◌*◌, ◌^◌, ◌≤◌, ◌<◌, ◌≡◌, Bool, true, false, cond, List, [], ◌∷◌, ◌++◌, length, filter, take, Option, Some, None, Result, Ok, Err, OnOk, refl, sym, ap, ◌∙◌, subst, arith, length-append}
+use Rattle.std.proofs.Common.{ℕ, ◌+◌, ◌-◌, ◌*◌, ◌^◌, ◌≤◌, ◌<◌, ◌≡◌, Bool, true, false, cond, List, [], ◌∷◌, ◌++◌, length, filter, take, Option, Some, None, refl, sym, ap, ◌∙◌, subst, arith, length-append}
 use Rattle.std.specs.Prelude.{IfSome}
 use Rattle.std.specs.Option.{option_map}
 use Rattle.std.proofs.lemmas.List.{length-take}
 use Rattle.std.proofs.lemmas.List.Elements.{filter-append}
 use Rattle.rep_types.specs.declared.ids.Cluster.{Cluster}
-use Rattle.rep_types.specs.declared.ids.Cluster.TheVariants.{A, B, C}
-use Rattle.rep_types.specs.declared.memory.Memory.{Memory}
-use Rattle.rep_types.specs.declared.state.Call.{Call}
 use Rattle.rep_vault.specs.Tallies.{Tally, IsBounded, total}
-use Rattle.pair_core.specs.Pair.{IsPlanned}
-use Rattle.pair_core.specs.Sides.{Both}
 use Rattle.script_text.specs.declared.command.Command.{Command}
-use Rattle.script_text.specs.declared.command.Command.TheVariants as command
 use Rattle.script_runner.specs.Plans.{plans, planned_for, CountsFew, Plans, Planned}
 
 one-more : (c : Cluster) (cs : List Command) (x : Command) → planned_for c (cs ++ x ∷ []) ≡ planned_for c cs + cond (plans c x) 1 0
@@ -66,16 +60,3 @@ few-faults c cs t bounded h = by t.planned bounded.planned h
     by : (o : Option ℕ) → IfSome o (λ n. total t.faults ≤ n) → IfSome o (λ n. n ≡ planned_for c cs) → IfSome o (λ n. total t.faults ≤ planned_for c cs)
     by (Some n) b e = subst (λ k. total t.faults ≤ k) e b
     by None b e = tt
-
--- a `fail` line plans for its own cluster
-pub fail-plans-a : (d : Cluster) (k : Call) (nth bytes : ℕ) (old new : Both Tally) (r : Result (Unit {0}) Memory) → IsPlanned d old new r → OnOk r (Plans A (command.Fail d k nth bytes) old.a new.a)
-fail-plans-a A k nth bytes old new (Ok x) h = h.0.planned
-fail-plans-a B k nth bytes old new (Ok x) h = ap (λ (t : Tally). t.planned) h.1
-fail-plans-a C k nth bytes old new (Ok x) h = ap (λ (t : Both Tally). t.a.planned) h
-fail-plans-a d k nth bytes old new (Err e) h = tt
-
-pub fail-plans-b : (d : Cluster) (k : Call) (nth bytes : ℕ) (old new : Both Tally) (r : Result (Unit {0}) Memory) → IsPlanned d old new r → OnOk r (Plans B (command.Fail d k nth bytes) old.b new.b)
-fail-plans-b A k nth bytes old new (Ok x) h = ap (λ (t : Tally). t.planned) h.1
-fail-plans-b B k nth bytes old new (Ok x) h = h.0.planned
-fail-plans-b C k nth bytes old new (Ok x) h = ap (λ (t : Both Tally). t.b.planned) h
-fail-plans-b d k nth bytes old new (Err e) h = tt

@@ -1,5 +1,5 @@
 -- Each told fault is one more that the store has counted.
-use Rattle.std.proofs.Common.{ℕ, ◌+◌, ◌≤◌, ◌<◌, ◌≡◌, ◌==◌, Bool, true, false, cond, List, [], ◌∷◌, filter, length, map, Option, Some, None, refl, sym, subst, arith}
+use Rattle.std.proofs.Common.{ℕ, ◌+◌, ◌≤◌, ◌<◌, ◌≡◌, ◌==◌, Bool, true, false, cond, List, [], ◌∷◌, filter, length, map, Option, Some, None, refl, subst, arith}
 use Rattle.std.specs.Prelude.{IfSome}
 use Rattle.std.proofs.lemmas.Bool.{false≢true}
 use Rattle.rep_types.specs.declared.ids.Cluster.{Cluster}
@@ -54,15 +54,13 @@ told_all : (c : Cluster) (journal : List Record) → IsLegal journal → 0 + tol
 unfolding IsLegalOn faults_on
 told_all c journal legal = told_from c opening no_faults journal legal
 
+upto : (a b c d : ℕ) → 0 + a ≤ b → b ≤ c → c ≤ d → a ≤ d
+upto a b c d h g i = omega arith
+
 -- no more are told than the commands plan
 pub told-few : (c : Cluster) (cs : List Command) (journal : List Record) (t : Tally) → IsLegal journal → Covers (faults_of journal c) t → CountsFew c cs t → TellsFew c cs journal t
 told-few c cs journal t legal covers few = by t.planned few
   where
-    told = told_all c journal legal
-
     by : (o : Option ℕ) → IfSome o (λ _. total t.faults ≤ planned_for c cs) → IfSome o (λ _. told_of c journal ≤ planned_for c cs)
     by None h = tt
-    by (Some n) h = upto (told_of c journal) (faults_of journal c) (total t.faults) (planned_for c cs) told covers h
-      where
-        upto : (a b d e : ℕ) → 0 + a ≤ b → b ≤ d → d ≤ e → a ≤ e
-        upto a b d e h g i = omega arith
+    by (Some n) h = upto (told_of c journal) (faults_of journal c) (total t.faults) (planned_for c cs) (told_all c journal legal) covers h
