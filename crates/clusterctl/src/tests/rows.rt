@@ -1,6 +1,8 @@
-// Scripts of moves, crashes and failed calls, and what each of them prints. All begin with the opening of the tests.
+// Scripts of moves, crashes and failed calls, and what each of them prints. All begin with the opening of the tests, those
+// behind `TWO_SERVERS` with that one.
 
 /// What follows the opening, and its lines.
+#[derive(Clone, Copy)]
 pub struct Row {
     pub script: &'static [u8],
     pub lines: &'static [u8],
@@ -77,4 +79,53 @@ open a 1 2\nput a t r1 f:q@12=x\nsync a 2\nsend a 1 2 25\nsend a 1 1 25\nshow a 
 17 openend a 1 -> ok seq=3 acks=-\n18 put a t r1 f:q@12=x -> ok region=1 seq=4 ticket=3\n\
 19 sync a 2 -> ok commits=1 acks=3\n20 send a 1 2 25 -> ok flight=1 entries=2 forms=1\n\
 21 send a 1 1 25 -> ownerdead by=1\n22 show a t -> ok cells=1\n| r1 f:q@12=x\n",
+};
+
+/// What opens the rows of a cluster a with two servers.
+pub const TWO_SERVERS: Row = Row {
+    script: b"server a 1\nserver a 2\nserver b 1\ntable a t f/1\ntable b t f/1\nopen a 1 1\nopen b 1 1\npeer a 1 plain t\n",
+    lines: b"1 server a 1 -> ok\n2 server a 2 -> ok\n3 server b 1 -> ok\n4 table a t f/1 -> ok region=1\n\
+5 table b t f/1 -> ok region=1\n6 openbegin a 1 1 -> ok barrier=1\n7 openend a 1 -> ok seq=1 acks=-\n\
+8 openbegin b 1 1 -> ok barrier=1\n9 openend b 1 -> ok seq=1 acks=-\n10 peer a 1 plain t -> ok\n",
+};
+
+/// A move at a plain peer: the second server ships what was written behind it.
+pub const A_MOVE: Row = Row {
+    script: b"put a t r1 f:q@10=v\nsync a 1\nmove a 1 2\nput a t r1 f:q@20=w\nsync a 2\nship a 1 2\n",
+    lines: b"11 put a t r1 f:q@10=v -> ok region=1 seq=2 ticket=1\n12 sync a 1 -> ok commits=1 acks=1\n\
+13 closebegin a 1 -> ok\n14 closeend a 1 -> ok seq=3 acks=-\n15 openbegin a 1 2 -> ok barrier=4\n\
+16 openend a 1 -> ok seq=4 acks=-\n17 put a t r1 f:q@20=w -> ok region=1 seq=5 ticket=2\n\
+18 sync a 2 -> ok commits=1 acks=2\n19 send a 1 2 25 -> ok flight=1 entries=2 forms=1\n\
+20 deliver 1 -> all arrived=1 acks=-\n21 confirm 1 -> ok recorded=2\n",
+};
+
+/// A crash of which nothing is kept: lost ids are used again.
+pub const A_CRASH: Row = Row {
+    script: b"put a t r1 f:q@10=v\nput a t r1 f:q@11=w\ncrash a 1\nkeep a 0\nseal a 1\nrecover a 1\nopen a 1 2\n\
+put a t r1 f:q@12=x\nsync a 2\nship a 1 2\nshow b t\n",
+    lines: b"11 put a t r1 f:q@10=v -> ok region=1 seq=2 ticket=1\n12 put a t r1 f:q@11=w -> ok region=1 seq=3 ticket=2\n\
+13 crash a 1 -> ok doubtful=1,2\n14 seal a 1 -> ok commits=0 dropped=2\n15 recover a 1 -> ok\n\
+16 openbegin a 1 2 -> ok barrier=2\n17 openend a 1 -> ok seq=2 acks=-\n\
+18 put a t r1 f:q@12=x -> ok region=1 seq=3 ticket=3\n19 sync a 2 -> ok commits=1 acks=3\n\
+20 send a 1 2 25 -> ok flight=1 entries=2 forms=1\n21 deliver 1 -> all arrived=1 acks=-\n\
+22 confirm 1 -> ok recorded=2\n23 show b t -> ok cells=1\n| r1 f:q@12=x\n",
+};
+
+/// A crash of a server that took no write.
+pub const A_CRASH_WITHOUT_COMMITS: Row = Row {
+    script: b"crash a 1\nseal a 1\nrecover a 1\n",
+    lines: b"11 crash a 1 -> ok doubtful=-\n12 seal a 1 -> ok commits=0 dropped=0\n13 recover a 1 -> ok\n",
+};
+
+/// A flight that arrives again, where two puts of one cell share a timestamp: nothing is promised of it.
+pub const A_REPEAT: Row = Row {
+    script: b"put a t r1 f:q@10=old\nsync a 1\nship a 1 1\nput a t r1 f:q@10=new\nsync a 1\nship a 1 1\nshow b t\ndeliver 1\n\
+show b t\nshow a t\n",
+    lines: b"10 put a t r1 f:q@10=old -> ok region=1 seq=2 ticket=1\n11 sync a 1 -> ok commits=1 acks=1\n\
+12 send a 1 1 25 -> ok flight=1 entries=1 forms=1\n13 deliver 1 -> all arrived=1 acks=-\n\
+14 confirm 1 -> ok recorded=1\n15 put a t r1 f:q@10=new -> ok region=1 seq=3 ticket=2\n\
+16 sync a 1 -> ok commits=1 acks=2\n17 send a 1 1 25 -> ok flight=2 entries=1 forms=1\n\
+18 deliver 2 -> all arrived=1 acks=-\n19 confirm 2 -> ok recorded=1\n20 show b t -> ok cells=1\n\
+| r1 f:q@10=new\n21 deliver 1 -> all arrived=1 acks=-\n22 show b t -> ok cells=1\n| r1 f:q@10=old\n\
+23 show a t -> ok cells=1\n| r1 f:q@10=new\n",
 };

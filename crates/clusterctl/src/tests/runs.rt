@@ -1,6 +1,9 @@
 ghost use Rattle.std.specs.Prelude.{◌≡◌, ◌≤◌};
 
-use crate::tests::rows::{FAILED_APPEND, FAILED_SYNC, FULL_LOG, LOST, MOVED, Row, TORN};
+use crate::tests::rows::{
+    A_CRASH, A_CRASH_WITHOUT_COMMITS, A_MOVE, A_REPEAT, FAILED_APPEND, FAILED_SYNC, FULL_LOG, LOST,
+    MOVED, Row, TORN, TWO_SERVERS,
+};
 use rep_io::{MemSink, MemSource};
 use rep_types::{Argv, Bytes, Items, Status, Text, Words};
 use rep_vault::{MemVault, Outcome};
@@ -8,7 +11,7 @@ use script_runner::run;
 use std::alloc::Global;
 use std::test::Fail;
 
-const OPENING: &[u8] =
+pub const OPENING: &[u8] =
     b"server a 1\nserver b 1\ntable a t f/1\ntable b t f/1\nopen a 1 1\nopen b 1 1\npeer a 1 plain t\n";
 
 const OPENED: &[u8] = b"1 server a 1 -> ok\n2 server b 1 -> ok\n3 table a t f/1 -> ok region=1\n\
@@ -24,7 +27,7 @@ const SHIPPED: &[u8] = b"10 put a t r1 f:q@10=v -> ok region=1 seq=2 ticket=1\n\
 region a 1 t - - on:1 barriers=1 final=none parents=-\nqueue a 1 1 owner=1 left=0 flight=none\n\
 17 show a u -> notable\n";
 
-fn join(alloc: Global, front: &[u8], back: &[u8]) -> Result<Bytes, Fail> {
+pub fn join(alloc: Global, front: &[u8], back: &[u8]) -> Result<Bytes, Fail> {
     let mut bytes = Items::from_slice(alloc, front)?;
     bytes.extend_from_slice(back)?;
     Ok(bytes)
@@ -32,13 +35,13 @@ fn join(alloc: Global, front: &[u8], back: &[u8]) -> Result<Bytes, Fail> {
 
 // Ports for one run: pieces of at most so many bytes, and the numbers of the calls that fail.
 #[derive(Clone, Copy)]
-struct Ports {
+pub struct Ports {
     most: usize,
     read: u64,
     write: u64,
 }
 
-fn sound(most: usize) -> Ports
+pub fn sound(most: usize) -> Ports
     ensures { result.most ≡ most }
 {
     Ports {
@@ -54,8 +57,8 @@ fn words(alloc: Global) -> Result<Argv, Fail> {
     Ok(words)
 }
 
-// Whether the run of a script answers so and writes these bytes.
-fn runs(
+/// Whether the run of a script answers so and writes these bytes.
+pub fn runs(
     alloc: Global,
     script: Bytes,
     ports: Ports,
@@ -73,6 +76,16 @@ fn runs(
     let b = MemVault::new(alloc)?;
     let Outcome { status, a: _, b: _ } = run(alloc, &words, &mut input, &mut out, a, b);
     Ok(status == answer && out.bytes() == text)
+}
+
+/// The run of a script over two new stores, whose lines aren't kept.
+pub fn performed(alloc: Global, script: Bytes) -> Result<Outcome<MemVault>, Fail> {
+    let words = words(alloc)?;
+    let mut input = MemSource::new(script, Words::new(alloc), 4096);
+    let mut out = MemSink::new(alloc, 4096, Words::new(alloc), 4096)?;
+    let a = MemVault::new(alloc)?;
+    let b = MemVault::new(alloc)?;
+    Ok(run(alloc, &words, &mut input, &mut out, a, b))
 }
 
 const LATER: &[u8] = b"put a t r1 f:q@10=v\nsync a 1\nship a 1 1\nshow a t\nshow b t\n\
@@ -112,6 +125,13 @@ fn prints(alloc: Global, row: &Row) -> Result<bool, Fail> {
     runs(alloc, script, sound(4096), Status::Ok, lines.as_slice())
 }
 
+// Whether a row prints its lines behind those of the opening with two servers.
+fn prints_of_two(alloc: Global, row: &Row) -> Result<bool, Fail> {
+    let script = join(alloc, TWO_SERVERS.script, row.script)?;
+    let lines = join(alloc, TWO_SERVERS.lines, row.lines)?;
+    runs(alloc, script, sound(4096), Status::Ok, lines.as_slice())
+}
+
 #[test]
 fn rows_print_their_lines(rt: HostRuntime) -> Result<(), Fail> {
     let alloc = rt.alloc();
@@ -121,6 +141,10 @@ fn rows_print_their_lines(rt: HostRuntime) -> Result<(), Fail> {
     assert!(rt; prints(alloc, &MOVED)?);
     assert!(rt; prints(alloc, &LOST)?);
     assert!(rt; prints(alloc, &TORN)?);
+    assert!(rt; prints(alloc, &A_REPEAT)?);
+    assert!(rt; prints_of_two(alloc, &A_MOVE)?);
+    assert!(rt; prints_of_two(alloc, &A_CRASH)?);
+    assert!(rt; prints_of_two(alloc, &A_CRASH_WITHOUT_COMMITS)?);
     Ok(())
 }
 
