@@ -4,3 +4,7 @@ mod Seen
 mod Steps
 mod Storing
 mod Viewed
+mod Living
+mod SeenQueue
+mod SeenRegion
+mod SeenSide

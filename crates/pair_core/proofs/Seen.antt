@@ -34,7 +34,7 @@ use Rattle.cluster_core.specs.declared.parts.CoreError.TheVariants as failed
 use Rattle.cluster_core.specs.Stands.{Stands}
 use Rattle.cluster_core.specs.Entries.{entry_of}
 use Rattle.cluster_core.specs.Does.{Reached, Answers, Flies, FliesOr, sent_of}
-use Rattle.arrival_events.specs.Delivering.{IsFor, IsSink}
+use Rattle.queue_events.specs.Delivering.{IsFor, IsSink}
 use Rattle.queue_events.specs.Flights.{IsFrom}
 use Rattle.queue_events.proofs.Known.{sent_is}
 use Rattle.pair_core.specs.declared.sides.Sides.{Sides}

@@ -19,7 +19,7 @@ use Rattle.cluster_core.specs.declared.parts.ClusterCore.{ClusterCore}
 use Rattle.cluster_core.specs.declared.parts.Sent.{Sent}
 use Rattle.cluster_core.specs.Does.{Reached, sent_of}
 use Rattle.cluster_core.specs.Stands.{Stands}
-use Rattle.core_views.specs.Views.{side_view}
+use Rattle.pair_core.specs.Views.{side_view}
 use Rattle.pair_core.specs.declared.sides.Sides.{Sides}
 use Rattle.pair_core.specs.Pair.{PairValue, IsPair, both}
 use Rattle.pair_core.specs.Sides.{Both, AllStand, core_of}

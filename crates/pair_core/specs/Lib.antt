@@ -1,3 +1,4 @@
+pub mod InMemory
 pub mod Pair
 pub mod Performs
 pub mod Served

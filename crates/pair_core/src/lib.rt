@@ -3,6 +3,9 @@
 
 mod pair;
 mod performing;
+mod queue_views;
+mod region_views;
+mod side_views;
 mod sides;
 mod views;
 

@@ -16,20 +16,16 @@ ghost use Rattle.pair_core.specs.Pair.{both};
 ghost use Rattle.pair_core.specs.Performs.{Performs, FaultRose};
 
 use crate::sides::{Sides, accepted, cluster_of, destination, is_b};
-use arrival_events::deliver;
 use cluster_core::{ClusterCore, CoreError, Sent};
-use log_events::{roll, seal, sync};
+use data_events::{get, put, show};
 use peer_events::peer;
-use queue_events::{confirm, send};
-use read_events::{get, show};
-use recovery_events::recover;
-use region_events::{close_begin, close_end, open_begin, open_end, table};
+use queue_events::{confirm, deliver, send};
+use region_events::{close_begin, close_end, open_begin, open_end, recover, table};
 use region_meta::RegionMap;
 use rep_types::{Cells, Duplicate, Event, Families, Items, Key, Kind, Name, Names, PeerId, Reply};
 use rep_vault::Vault;
-use server_events::{crash, server};
+use server_events::{crash, roll, seal, server, sync};
 use std::alloc::Global;
-use write_events::put;
 
 // Makes a table of copies of these words.
 fn make_table<V: Vault>(

@@ -2,12 +2,13 @@
 ghost use Rattle.std.specs.Prelude.{◌≡◌, ℕ, ◌<◌, false, None, length, IfOk};
 ghost use Rattle.rep_model.specs.State.{of};
 ghost use Rattle.rep_model.specs.Runs.{state_of};
-ghost use Rattle.core_views.specs.Views.{queue_seen, region_seen};
-ghost use Rattle.pair_core.specs.Views.{status_seen};
+ghost use Rattle.pair_core.specs.Views.{queue_seen, region_seen, status_seen};
 
 use crate::pair::Pair;
+use crate::queue_views::queue_view;
+use crate::region_views::{region_count, region_line};
+use crate::side_views::side_line;
 use crate::sides::core_of;
-use core_views::{queue_view, region_count, region_line, side_line};
 use rep_types::{Cluster, Memory, PeerId, QueueView, RegionId, RegionLine, ServerId, StatusLine};
 use rep_vault::Vault;
 use std::alloc::Global;

@@ -1,4 +1,9 @@
+pub mod Acks
+pub mod Arriving
 pub mod Confirming
+pub mod Delivering
+pub mod Entered
 pub mod Flights
 pub mod Reading
 pub mod Sending
+pub mod Underway

@@ -1,8 +1,12 @@
 pub mod ClosingBegun
 pub mod ClosingEnded
+pub mod Holding
 pub mod Marked
 pub mod Marking
 pub mod Moving
 pub mod OpeningBegun
 pub mod OpeningEnded
+pub mod Readable
+pub mod Recovered
 pub mod TableAdded
+pub mod Told

@@ -1,3 +1,5 @@
 pub mod Closing
 pub mod Effects
 pub mod Marks
+pub mod Recovery
+pub mod Unflushed

@@ -1,8 +1,7 @@
 // The lines of a cluster's queues.
 ghost use Rattle.std.specs.Prelude.{◌≡◌, ◌+◌, ◌++◌, ◌<◌, false, OnOk};
 ghost use Rattle.rep_model.specs.Runs.{state_of};
-ghost use Rattle.script_lines.specs.Shown.{queue_shown};
-ghost use Rattle.script_lines.specs.Views.{peer_text, queues_text};
+ghost use Rattle.script_lines.specs.Views.{queue_shown, peer_text, queues_text};
 
 use pair_core::Pair;
 use rep_types::{Cluster, Memory, PeerId, ServerId};

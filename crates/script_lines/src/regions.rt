@@ -1,7 +1,7 @@
 // The lines of a cluster's regions.
 ghost use Rattle.std.specs.Prelude.{◌≡◌, ◌+◌, ◌++◌, ◌<◌, false, OnOk};
 ghost use Rattle.rep_model.specs.Runs.{state_of};
-ghost use Rattle.script_lines.specs.Views.{numbered_text, regions_text};
+ghost use Rattle.script_lines.specs.Views.{region_shown, regions_text};
 
 use pair_core::Pair;
 use rep_types::{Cluster, Memory, RegionId};
@@ -26,7 +26,7 @@ fn numbered_line<V: Vault>(
     pair: &Pair<V>,
     out: &mut Vec<u8>,
 ) -> Result<(), Memory>
-    ensures text { pair.now.spent ≡ false → OnOk result (out.new.items ≡ out.old.items ++ numbered_text cluster (state_of pair.now.journal) region) }
+    ensures text { pair.now.spent ≡ false → OnOk result (out.new.items ≡ out.old.items ++ region_shown cluster (state_of pair.now.journal) region) }
 {
     match pair.region_line(alloc, cluster, region)? {
         Some(view) => region_line(&view, out),

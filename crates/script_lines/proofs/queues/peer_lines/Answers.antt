@@ -1,7 +1,5 @@
-use Rattle.std.proofs.Common.{List, ℕ, ◌++◌, ◌∙◌, ap, arith}
-use Rattle.rep_model.specs.Runs.{state_of}
+use Rattle.std.proofs.Common.{arith}
 use Rattle.script_lines.proofs.Numbers.{grown-new, grown-next, grown-all}
-use Rattle.script_lines.proofs.Shown.{peer_shown}
 use Rattle.script_lines.proofs.queues.peer_lines.Goals as goal
 
 pub loop-at-init : goal.loop-at-init
@@ -11,6 +9,4 @@ pub loop-at-preserved : goal.loop-at-preserved
 loop-at-preserved g c = λ e. grown-next _ _ _ _ _ _ (c.loop-at.invariant e) c.server_id.ensures (c.in_ok-server_line.ensures.text e)
 
 pub returns : goal.returns
-returns g c = record {
-  text = λ e. grown-all _ _ _ _ _ (c.loop-at.invariant e) (omega arith) ∙ ap (λ (t : List ℕ). c.args.out.now.items ++ t) (peer_shown c.args.cluster (state_of c.args.pair.now.journal) c.args.peer);
-}
+returns g c = record { text = λ e. grown-all _ _ _ _ _ (c.loop-at.invariant e) (omega arith) }

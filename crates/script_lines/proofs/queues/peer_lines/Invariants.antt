@@ -2,7 +2,7 @@ use Rattle.std.proofs.Common.{◌≡◌, ◌++◌, false}
 use Rattle.std.specs.List.{flat_map}
 use Rattle.rep_model.specs.Runs.{state_of}
 use Rattle.script_text.specs.Drains.{numbers}
-use Rattle.script_lines.specs.Shown.{queue_shown}
+use Rattle.script_lines.specs.Views.{queue_shown}
 use Rattle.script_lines.proofs.queues.peer_lines.Given as goal
 
 abbrev pub invariant-loop-at : goal.invariant-loop-at

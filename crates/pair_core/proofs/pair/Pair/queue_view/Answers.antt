@@ -1,5 +1,5 @@
 use Rattle.std.proofs.Common.{◌≡◌, None, refl, sym}
-use Rattle.core_views.specs.Views.{queue_seen}
+use Rattle.pair_core.specs.Views.{queue_seen}
 use Rattle.rep_model.specs.Keyed.{given}
 use Rattle.rep_model.specs.State.{of}
 use Rattle.rep_model.specs.declared.machine.Machine.{Machine}

@@ -1,5 +1,5 @@
 use Rattle.std.proofs.Common.{◌≡◌, ◌<◌, ℕ, None, length, sym}
-use Rattle.core_views.specs.Views.{region_seen}
+use Rattle.pair_core.specs.Views.{region_seen}
 use Rattle.rep_model.specs.State.{of}
 use Rattle.rep_model.specs.declared.machine.Machine.{Machine}
 use Rattle.pair_core.proofs.Viewed.{seen_now}

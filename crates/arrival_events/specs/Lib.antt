@@ -1,5 +1,0 @@
-pub mod Acks
-pub mod Arriving
-pub mod Delivering
-pub mod Entered
-pub mod Underway

@@ -1,4 +1,0 @@
-mod Living
-mod SeenQueue
-mod SeenRegion
-mod SeenSide

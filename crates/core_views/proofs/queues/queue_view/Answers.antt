@@ -1,6 +1,0 @@
-use Rattle.std.proofs.Common.{◌∙◌}
-use Rattle.core_views.proofs.SeenQueue.{line_is_queue}
-use Rattle.core_views.proofs.queues.queue_view.Goals as goal
-
-pub returns : goal.returns
-returns c = record { seen = λ way k m reached here stands. c.line_seen.ensures ∙ line_is_queue way c.args.core.now.own k c.args.core.now m reached here stands c.args.peer c.args.server }

@@ -1,0 +1,4 @@
+pub mod Allowed
+mod Shown
+pub mod Typing
+pub mod Written

@@ -1,4 +1,0 @@
-pub mod Kept
-pub mod NextLog
-pub mod Ready
-pub mod SealedLog

@@ -1,4 +1,0 @@
-pub mod Holding
-pub mod Readable
-pub mod Recovered
-pub mod Told
