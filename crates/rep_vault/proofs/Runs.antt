@@ -6,7 +6,7 @@ use Rattle.rep_types.specs.declared.state.Call.{Call}
 use Rattle.rep_vault.specs.declared.store.VaultError.{VaultError}
 use Rattle.rep_vault.specs.declared.store.VaultError.TheVariants.{Failed, Gone, Sealed, Exists, Memory}
 use Rattle.rep_vault.specs.declared.plans.Plans.{Plans}
-use Rattle.rep_vault.specs.Tallies.{CountsNone, Counted, PlansOne, total}
+use Rattle.rep_vault.specs.Tallies.{CountsNone, Counted, PlansOne}
 use Rattle.rep_vault.specs.Kinds.{ahead}
 use Rattle.rep_vault.specs.Plans.{Runs, Strikes, PassesOne, PlansAt, AreUnchanged, of_kind, faults_of, planned_of}
 use Rattle.rep_vault.specs.Laws.{fit}
@@ -15,14 +15,18 @@ use Rattle.rep_vault.specs.Memory.{tally_in, ahead_in, Uses, Raises, RaisesNone,
 one_more : (k : Call) (old new : Plans) → PassesOne k old new → IsSome (ahead (of_kind k old) 1) → faults_of old k < faults_of new k
 one_more k old new passes due = grind (arith, passes.here.faults)
 
+-- equal for each kind, they are equal
+same_planned : (p q : Plans) → ((k : Call) → planned_of q k ≡ planned_of p k) → Some (planned_of q) ≡ Some (planned_of p)
+same_planned p q each = λ i. Some (λ k. each k i)
+
 untold : {T : Type 0} (k : Call) (p q : Plans) (result : Result T VaultError) → (IsErrOf result Failed → ⊥) → q ≡ p → Counted k (tally_in p) (tally_in q) result
 unfolding tally_in
 untold k p q result other e = record { kept = λ j. omega (arith, ap (λ x. faults_of x j) e); failed = λ h. absurd (other h); most = λ h. absurd (other h); memory = λ _ j. ap (λ x. faults_of x j) e; planned = ap (λ x. Some (planned_of x)) e }
 
 pub counted : {T : Type 0} (k : Call) (p q : Plans) (result : Result T VaultError) → Runs k p q result → Counted k (tally_in p) (tally_in q) result
 unfolding tally_in
-counted k p q (Ok x) runs = record { kept = runs.1.kept; failed = search rules; most = search rules; memory = search rules; planned = ap Some runs.1.planned }
-counted k p q (Err Failed) runs = record { kept = runs.1.kept; failed = λ _. one_more k p q runs.1 runs.0; most = λ _. omega (arith, fit p); memory = λ h. cc; planned = ap Some runs.1.planned }
+counted k p q (Ok x) runs = record { kept = runs.1.kept; failed = search rules; most = search rules; memory = search rules; planned = same_planned p q runs.1.planned }
+counted k p q (Err Failed) runs = record { kept = runs.1.kept; failed = λ _. one_more k p q runs.1 runs.0; most = λ _. omega (arith, fit p); memory = λ h. cc; planned = same_planned p q runs.1.planned }
 counted k p q (Err Gone) runs = untold k p q (Err Gone) (λ h. cc) runs
 counted k p q (Err Exists) runs = untold k p q (Err Exists) (λ h. cc) runs
 counted k p q (Err Sealed) runs = untold k p q (Err Sealed) (λ h. cc) runs
@@ -74,9 +78,9 @@ pub passed_follows : (k : Call) (p q z : Plans) (b : Bool) → Strikes k p q b �
 passed_follows k p q z b s e passes = follows {T = ℕ} k p z (Ok 0) (passed k p q z b s e passes)
 
 -- plans that are made
-pub plans_one : (k : Call) (nth bytes : ℕ) (p q : Plans) (result : Result (Unit {0}) rep.Memory) → OnOk result (PlansAt k nth bytes p q) → OnOk result (PlansOne (tally_in p) (tally_in q))
+pub plans_one : (k : Call) (nth bytes : ℕ) (p q : Plans) (result : Result (Unit {0}) rep.Memory) → OnOk result (PlansAt k nth bytes p q) → OnOk result (PlansOne k (tally_in p) (tally_in q))
 unfolding tally_in
-plans_one k nth bytes p q (Ok x) plans = record { kept = plans.kept; planned = ap Some plans.planned }
+plans_one k nth bytes p q (Ok x) plans = record { kept = plans.kept; planned = λ i. Some (λ j. plans.planned j i) }
 plans_one k nth bytes p q (Err e) plans = tt
 
 pub plans_ahead : (k : Call) (nth bytes : ℕ) (p q : Plans) (result : Result (Unit {0}) rep.Memory) → OnOk result (PlansAt k nth bytes p q) → OnOk result (PlansAhead k nth bytes (ahead_in p) (ahead_in q))
@@ -87,7 +91,7 @@ plans_ahead k nth bytes p q (Err e) plans = tt
 pub same_tally : (p q : Plans) (result : Result (Unit {0}) rep.Memory) → OnErr result (AreUnchanged p q) → OnErr result (tally_in q ≡ tally_in p)
 unfolding tally_in
 same_tally p q (Ok x) same = tt
-same_tally p q (Err e) same = λ i. record { faults = λ k. (same.each k).faults i; planned = Some (total (λ k. (same.each k).planned i)) }
+same_tally p q (Err e) same = λ i. record { faults = λ k. (same.each k).faults i; planned = Some (λ k. (same.each k).planned i) }
 
 pub same_ahead : (p q : Plans) (result : Result (Unit {0}) rep.Memory) → OnErr result (AreUnchanged p q) → OnErr result (ahead_in q ≡ ahead_in p)
 unfolding ahead_in
@@ -95,18 +99,18 @@ same_ahead p q (Ok x) same = tt
 same_ahead p q (Err e) same = λ i k n. (same.each k).due n i
 
 -- the plans are as at the start
-pub counts_none : (p : Plans) → ((k : Call) → faults_of p k ≡ 0) → planned_of p ≡ 0 → CountsNone (tally_in p)
+pub counts_none : (p : Plans) → ((k : Call) → faults_of p k ≡ 0) → ((k : Call) → planned_of p k ≡ 0) → CountsNone (tally_in p)
 unfolding tally_in
 counts_none p none unplanned = record { faults = none; planned = unplanned }
 
-pub none_planned : (p : Plans) → planned_of p ≡ 0 → (tally_in p).planned ≡ Some 0
+pub none_planned : (p : Plans) → ((k : Call) → planned_of p k ≡ 0) → (tally_in p).planned ≡ Some (λ _. 0)
 unfolding tally_in
-none_planned p none = ap Some none
+none_planned p none = λ i. Some (λ k. none k i)
 
 pub none_ahead : (p : Plans) → ((k : Call) (n : ℕ) → ahead (of_kind k p) n ≡ None) → (k : Call) (n : ℕ) → ahead_in p k n ≡ None
 unfolding ahead_in
 none_ahead p none k n = none k n
 
-pub room : (p : Plans) → IfSome (tally_in p).planned (λ n. n < 2 ^ 32 - 1) → planned_of p < 2 ^ 32 - 1
+pub room : (k : Call) (p : Plans) → IfSome (tally_in p).planned (λ n. n k < 2 ^ 32 - 1) → planned_of p k < 2 ^ 32 - 1
 unfolding tally_in
-room p h = h
+room k p h = h

@@ -5,11 +5,12 @@ use Rattle.std.specs.BTreeMap.{get_by_text}
 use Rattle.std.specs.Option.{option_map}
 use Rattle.rep_vault.specs.declared.folder.Folder.{Folder}
 use Rattle.rep_vault.specs.declared.file.MemFile.{MemFile}
+use Rattle.rep_vault.specs.declared.kind.Kind.{Kind}
 use Rattle.rep_vault.specs.declared.plans.Plans.{Plans}
 use Rattle.rep_vault.specs.declared.memory.MemVault.{MemVault}
 use Rattle.rep_vault.specs.Contents.{File, IsSound}
 use Rattle.rep_vault.specs.Tallies.{IsBounded, total}
-use Rattle.rep_vault.specs.Plans.{faults_of, planned_of}
+use Rattle.rep_vault.specs.Plans.{of_kind, faults_of}
 use Rattle.rep_vault.specs.Stored.{shown}
 use Rattle.rep_vault.specs.Folders.{file_at}
 use Rattle.rep_vault.specs.Memory.{contents_of, contents_in, tally_of, tally_in}
@@ -39,12 +40,12 @@ sound v = record {
   sealed = λ f n x e. (found (get_by_text v.folders f) n x e).sealed;
 }
 
-pub few : (p : Plans) → total (faults_of p) ≤ planned_of p
-few p = omega arith
+few : (x : Kind) → x.faults ≤ x.planned
+few x = omega arith
 
 pub fit : (p : Plans) → total (faults_of p) < 2 ^ 36
 fit p = omega arith
 
 pub bounded : (v : MemVault) → IsBounded (tally_of v)
 unfolding tally_in
-bounded v = record { fits = omega (arith, fit v.plans); planned = few v.plans }
+bounded v = record { fits = omega (arith, fit v.plans); planned = λ k. few (of_kind k v.plans) }

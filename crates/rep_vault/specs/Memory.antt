@@ -6,9 +6,9 @@ use Rattle.rep_vault.specs.declared.store.VaultError.TheVariants.{Failed, Gone, 
 use Rattle.rep_vault.specs.declared.plans.Plans.{Plans}
 use Rattle.rep_vault.specs.declared.memory.MemVault.{MemVault}
 use Rattle.rep_vault.specs.Contents.{File, Contents, with_file}
-use Rattle.rep_vault.specs.Tallies.{Tally}
+use Rattle.rep_vault.specs.Tallies.{Tally, same}
 use Rattle.rep_vault.specs.Kinds.{ahead}
-use Rattle.rep_vault.specs.Plans.{of_kind, same, faults_of, planned_of}
+use Rattle.rep_vault.specs.Plans.{of_kind, faults_of, planned_of}
 use Rattle.rep_vault.specs.Calls.{longer}
 use Rattle.rep_vault.specs.Stored.{kept_length, keep_after}
 use Rattle.rep_vault.specs.Folders.{Folders, Records, stands_in, file_in, record_in}

@@ -1,5 +1,5 @@
 -- The plans and faults of all kinds of calls.
-use Rattle.std.specs.Prelude.{ℕ, ◌≡◌, ◌+◌, ◌≤◌, ◌==◌, Bool, true, false, None, IsSome, Result, Ok, Err, if◌then◌else◌}
+use Rattle.std.specs.Prelude.{ℕ, ◌≡◌, ◌+◌, ◌≤◌, Bool, true, false, None, IsSome, Result, Ok, Err, if◌then◌else◌}
 use Rattle.std.specs.Borrow.{Lends, MutBor, Fml}
 use Rattle.rep_types.specs.declared.state.Call.{Call}
 use Rattle.rep_types.specs.declared.state.Call.TheVariants as call
@@ -9,7 +9,7 @@ use Rattle.rep_vault.specs.declared.plans.Plans.{Plans}
 use Rattle.rep_vault.specs.contracts.plans.Plans as plans
 use Rattle.rep_vault.specs.declared.store.VaultError.{VaultError}
 use Rattle.rep_vault.specs.declared.store.VaultError.TheVariants.{Failed, Gone, Sealed, Exists, Memory}
-use Rattle.rep_vault.specs.Tallies.{number, total}
+use Rattle.rep_vault.specs.Tallies.{same}
 use Rattle.rep_vault.specs.Kinds.{ahead, Passed, Planned, Unchanged}
 
 abbrev pub of_kind : Call → Plans → Kind
@@ -23,10 +23,6 @@ of_kind call.Rename p = p.rename
 of_kind call.Remove p = p.remove
 of_kind call.List p = p.list
 of_kind call.Put p = p.put
-
--- the same kind of call
-abbrev pub same : Call → Call → Bool
-same j k = number j == number k
 
 abbrev chosen : Call → Call → Kind → Kind → Kind
 chosen j k x y = if same j k then x else y
@@ -53,9 +49,9 @@ LendsKind s k r = Lends plans.the_row kind.the_row s r (with_kind k s.now)
 abbrev pub faults_of : Plans → Call → ℕ
 faults_of p k = (of_kind k p).faults
 
--- how many failures were planned, of all kinds
-abbrev pub planned_of : Plans → ℕ
-planned_of p = total (λ k. (of_kind k p).planned)
+-- how many failures of a kind were planned
+abbrev pub planned_of : Plans → Call → ℕ
+planned_of p k = (of_kind k p).planned
 
 -- a call of that kind was made
 pub record PassesOne (k : Call) (old new : Plans) : Type 0 where
@@ -63,7 +59,7 @@ pub record PassesOne (k : Call) (old new : Plans) : Type 0 where
   pub others : (j : Call) → same j k ≡ false → of_kind j new ≡ of_kind j old
   pub kept : (j : Call) → faults_of old j ≤ faults_of new j
   pub fine : ahead (of_kind k old) 1 ≡ None → (j : Call) → faults_of new j ≡ faults_of old j
-  pub planned : planned_of new ≡ planned_of old
+  pub planned : (j : Call) → planned_of new j ≡ planned_of old j
 
 -- a call of that kind is to fail and was made, or isn't to fail and wasn't made
 abbrev pub Strikes : Call → Plans → Plans → Bool → Type 0
@@ -84,7 +80,7 @@ pub record PlansAt (k : Call) (nth bytes : ℕ) (old new : Plans) : Type 0 where
   pub here : Planned nth bytes (of_kind k old) (of_kind k new)
   pub others : (j : Call) → same j k ≡ false → of_kind j new ≡ of_kind j old
   pub kept : (j : Call) → faults_of new j ≡ faults_of old j
-  pub planned : planned_of new ≡ planned_of old + 1
+  pub planned : (j : Call) → planned_of new j ≡ planned_of old j + (if same j k then 1 else 0)
 
 -- nothing was planned and nothing failed
 pub record AreUnchanged (old new : Plans) : Type 0 where

@@ -3,9 +3,8 @@ ghost use Rattle.std.specs.Option.{option_copied};
 ghost use Rattle.rep_types.specs.declared.state.Call.{Call};
 ghost use Rattle.rep_types.specs.declared.state.Call.TheVariants.{Create, Append, Sync, Seal, Read, Make, Rename, Remove, List, Put};
 ghost use Rattle.rep_vault.specs.New.{IsNew};
-ghost use Rattle.rep_vault.specs.Tallies.{Counted, PlansOne, total};
+ghost use Rattle.rep_vault.specs.Tallies.{Counted, PlansOne, same, total};
 ghost use Rattle.rep_vault.specs.Calls.{Creates, Appends, Syncs, Seals, Reads, Makes, Renames, Removes, Lists, Puts, Gets};
-ghost use Rattle.rep_vault.specs.Plans.{same};
 ghost use Rattle.rep_vault.specs.Memory.{contents_of, tally_of, ahead_of, keep_of, Follows, AppendsFirst, SealsAt, PlansAhead};
 ghost use Rattle.rep_vault.specs.Folders.{record_in};
 ghost use Rattle.rep_vault.specs.Laws.{sound, bounded};
@@ -34,7 +33,7 @@ impl MemVault {
     /// The folders `wal` and `run` stand, and nothing else. No fault is told, and nothing is planned.
     pub fn new(alloc: Global) -> Result<MemVault, Memory>
         ensures fresh { IfOk result (λ vault. IsNew (contents_of vault) (tally_of vault)) }
-        ensures planned { IfOk result (λ vault. (tally_of vault).planned ≡ Some 0) }
+        ensures planned { IfOk result (λ vault. (tally_of vault).planned ≡ Some (λ _. 0)) }
         ensures ahead { IfOk result (λ vault. (k : Call) (n : ℕ) → ahead_of vault k n ≡ None) }
         ensures keep { IfOk result (λ vault. keep_of vault ≡ None) }
     {
@@ -270,9 +269,9 @@ impl Vault for MemVault {
 
     fn plan_failure(&mut self, call: Call, nth: u32, bytes: u32) -> Result<(), Memory>
         requires nth { 1 ≤ nth }
-        requires room { IfSome (tally_of self.old).planned (λ n. n < 2 ^ 32 - 1) }
+        requires room { IfSome (tally_of self.old).planned (λ n. n call < 2 ^ 32 - 1) }
         ensures kept { contents_of self.new ≡ contents_of self.old }
-        ensures ok { OnOk result (PlansOne (tally_of self.old) (tally_of self.new)) }
+        ensures ok { OnOk result (PlansOne call (tally_of self.old) (tally_of self.new)) }
         ensures err { OnErr result (tally_of self.new ≡ tally_of self.old) }
         ensures plans { OnOk result (PlansAhead call nth bytes (ahead_of self.old) (ahead_of self.new)) }
         ensures stays { OnErr result (ahead_of self.new ≡ ahead_of self.old) }

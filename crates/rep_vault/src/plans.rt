@@ -28,7 +28,7 @@ impl Plans {
     pub fn new(alloc: Global) -> Plans
         ensures none { (k : Call) (n : ℕ) → ahead (of_kind k result) n ≡ None }
         ensures faults { (k : Call) → faults_of result k ≡ 0 }
-        ensures planned { planned_of result ≡ 0 }
+        ensures planned { (k : Call) → planned_of result k ≡ 0 }
     {
         Plans {
             create: Kind::new(alloc),
@@ -106,7 +106,7 @@ impl Plans {
 
     pub fn plan(&mut self, call: Call, nth: u32, bytes: u32) -> Result<(), Memory>
         requires nth { 1 ≤ nth }
-        requires room { planned_of self.old < 2 ^ 32 - 1 }
+        requires room { planned_of self.old call < 2 ^ 32 - 1 }
         ensures ok { OnOk result (PlansAt call nth bytes self.old self.new) }
         ensures err { OnErr result (AreUnchanged self.old self.new) }
     {

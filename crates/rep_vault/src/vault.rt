@@ -18,7 +18,7 @@ pub trait Vault {
     /// The folders, their files, and the records.
     ghost contents: { Self → Contents };
 
-    /// How many calls of each kind failed, and how many failures were planned.
+    /// How many calls of each kind failed, and how many failures of each kind were planned.
     ghost tally: { Self → Tally };
 
     /// Makes an empty file, which isn't sealed.
@@ -93,9 +93,9 @@ pub trait Vault {
     /// offers no plans ignores it.
     fn plan_failure(&mut self, call: Call, nth: u32, bytes: u32) -> Result<(), Memory>
         requires nth { 1 ≤ nth }
-        requires room { IfSome (tally self.old).planned (λ n. n < 2 ^ 32 - 1) }
+        requires room { IfSome (tally self.old).planned (λ n. n call < 2 ^ 32 - 1) }
         ensures kept { contents self.new ≡ contents self.old }
-        ensures ok { OnOk result (PlansOne (tally self.old) (tally self.new)) }
+        ensures ok { OnOk result (PlansOne call (tally self.old) (tally self.new)) }
         ensures err { OnErr result (tally self.new ≡ tally self.old) };
 
     /// Asks that the next seal of an unsealed file keep so many bytes of what isn't synced. A store that offers no plans
@@ -111,7 +111,7 @@ pub trait Vault {
     /// Files stand in folders that stand, and what is synced was written.
     ghost sound: { (vault : Self) → IsSound (contents vault) };
 
-    /// There are no more faults than were planned, where that is told.
+    /// There are no more faults of a kind than were planned of it, where that is told.
     ghost bounded: { (vault : Self) → IsBounded (tally vault) };
 }
 

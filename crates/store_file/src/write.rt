@@ -1,7 +1,6 @@
 ghost use Rattle.std.specs.Prelude.{◌≡◌, ◌++◌, true, length, IfOk, OnOk, All};
 ghost use Rattle.rep_vault.specs.Contents.{File, empty_file};
 ghost use Rattle.rep_vault.specs.Calls.{IsOpen};
-ghost use Rattle.wal_entry.specs.Spelling.{sized};
 ghost use Rattle.wal_roll.specs.Steps.{OnlyFile};
 ghost use Rattle.store_file.specs.Order.{are_in_order};
 ghost use Rattle.store_file.specs.Spelling.{IsShort, kind_number, value_spelling, rank_spelling, place_spelling, version_spelling, cell_spelling, run_spelling};
@@ -11,28 +10,10 @@ use crate::{RunCell, RunError};
 use rep_types::{Bytes, Call, CellKind, Memory, Rank};
 use rep_vault::{Tried, Vault, VaultError, try_append, try_sync};
 use std::alloc::Global;
+use wal_entry::{push_name, push_text};
 
 /// The folder of runs.
 pub const FOLDER: &str = "run";
-
-// Lengths fit their bytes by the types of what is written, which no clause tells here: so `% 256`.
-
-// A name behind its length.
-fn push_name(out: &mut Bytes, text: &str) -> Result<(), Memory>
-    ensures { OnOk result (out.new ≡ out.old ++ sized 1 text.now) }
-{
-    out.push((text.len() % 256) as u8)?;
-    out.extend_from_slice(text.as_bytes())
-}
-
-// A key or a value behind its length.
-fn push_text(out: &mut Bytes, text: &[u8]) -> Result<(), Memory>
-    ensures { OnOk result (out.new ≡ out.old ++ sized 2 text.now) }
-{
-    let size = (text.len() % 65536) as u16;
-    out.extend_from_slice(&size.to_be_bytes())?;
-    out.extend_from_slice(text)
-}
 
 fn push_place(out: &mut Bytes, cell: &RunCell) -> Result<(), Memory>
     ensures { OnOk result (out.new ≡ out.old ++ place_spelling cell.now) }

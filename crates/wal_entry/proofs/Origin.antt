@@ -24,7 +24,7 @@ pub record IsOriginOf (peer cluster region seq : ℕ) (o : Option Origin) : Type
   pub framed : IfSome o (λ x. 1 ≤ x.entry.seq)
   pub none : peer ≡ 0 → o ≡ None
 
-cluster_number-of : (n : ℕ) → 1 ≤ n → n ≤ 3 → cluster_number (cluster_of n) ≡ n
+pub cluster_number-of : (n : ℕ) → 1 ≤ n → n ≤ 3 → cluster_number (cluster_of n) ≡ n
 cluster_number-of n least most =
     elim (cases_eq n 1) [
       | inl one ↦ rw one refl
@@ -35,7 +35,7 @@ cluster_number-of n least most =
           ]
     ]
 
-cluster_of-number : (c : Cluster) → cluster_of (cluster_number c) ≡ c
+pub cluster_of-number : (c : Cluster) → cluster_of (cluster_number c) ≡ c
 cluster_of-number A = refl
 cluster_of-number B = refl
 cluster_of-number C = refl
@@ -77,7 +77,7 @@ pub record HasFields (o : Option Origin) : Type 0 where
   pub seq : IsPart (origin_peer o) (2 ^ 64 - 1) (origin_seq o)
   pub back : origin_of (origin_peer o) (origin_cluster o) (origin_region o) (origin_seq o) ≡ o
 
-cluster_range : (c : Cluster) → (1 ≤ cluster_number c) × (cluster_number c ≤ 3)
+pub cluster_range : (c : Cluster) → (1 ≤ cluster_number c) × (cluster_number c ≤ 3)
 cluster_range A = (omega arith, omega arith)
 cluster_range B = (omega arith, omega arith)
 cluster_range C = (omega arith, omega arith)

@@ -1,31 +1,12 @@
 ghost use Rattle.std.specs.Prelude.{◌≡◌, ◌≤◌, ◌+◌, ◌++◌, length, take, replicate, OnOk, OnErr};
 ghost use Rattle.wal_entry.specs.Framed.{IsFramed};
 ghost use Rattle.wal_entry.specs.Length.{rounded, body_length, frame_length, frame_length_of};
-ghost use Rattle.wal_entry.specs.Spelling.{sized, cell_kind_spelling, cell_spelling, cells_spelling, edit_spelling, body_spelling, kind_number, cluster_number, origin_peer, origin_cluster, origin_region, origin_seq, fields_spelling, padding_spelling, spelling};
+ghost use Rattle.wal_entry.specs.Spelling.{cell_kind_spelling, cell_spelling, cells_spelling, edit_spelling, body_spelling, kind_number, origin_peer, origin_cluster, origin_region, origin_seq, fields_spelling, padding_spelling, spelling};
 
-use rep_types::{Bytes, Cell, CellKind, Cluster, Edit, Entry, EntryKind, Memory, Origin};
+use crate::spell::{cluster_number, push_name, push_text};
+use rep_types::{Bytes, Cell, CellKind, Edit, Entry, EntryKind, Memory, Origin};
 
-// Each push adds bytes at the end. Where memory runs out it may have added some of them. Lengths fit
-// their bytes by the types of what is written, which no clause tells here: so `% 256`.
-
-// A name behind its length.
-fn push_name(out: &mut Bytes, text: &str) -> Result<(), Memory>
-    ensures ok { OnOk result (out.new ≡ out.old ++ sized 1 text.now) }
-    ensures err { OnErr result (take (length out.old) out.new ≡ out.old) }
-{
-    out.push((text.len() % 256) as u8)?;
-    out.extend_from_slice(text.as_bytes())
-}
-
-// A key or a value behind its length.
-fn push_text(out: &mut Bytes, text: &[u8]) -> Result<(), Memory>
-    ensures ok { OnOk result (out.new ≡ out.old ++ sized 2 text.now) }
-    ensures err { OnErr result (take (length out.old) out.new ≡ out.old) }
-{
-    let size = (text.len() % 65536) as u16;
-    out.extend_from_slice(&size.to_be_bytes())?;
-    out.extend_from_slice(text)
-}
+// Each push adds bytes at the end. Where memory runs out it may have added some of them.
 
 fn push_cell_kind(out: &mut Bytes, kind: &CellKind) -> Result<(), Memory>
     ensures ok { OnOk result (out.new ≡ out.old ++ cell_kind_spelling kind.now) }
@@ -115,16 +96,6 @@ fn kind_number(kind: &EntryKind) -> u8
         EntryKind::Opened => 1,
         EntryKind::Closed => 2,
         EntryKind::Write(_) => 3,
-    }
-}
-
-fn cluster_number(cluster: Cluster) -> u8
-    ensures { result ≡ cluster_number cluster }
-{
-    match cluster {
-        Cluster::A => 1,
-        Cluster::B => 2,
-        Cluster::C => 3,
     }
 }
 

@@ -32,7 +32,9 @@
 mod decode;
 mod encode;
 mod laws;
+mod spell;
 
 pub use decode::{Decoded, Decoder, decode_frame, frame_length};
 pub use encode::{encode_frame, entry_length, kind_length};
 pub use laws::{pieces_agree, spellings_are_apart};
+pub use spell::{cluster_number, cluster_of, push_name, push_text};

@@ -1,12 +1,10 @@
 -- The fields before the forms, both ways.
-use Rattle.std.proofs.Common.{◌≡◌, ℕ, ◌+◌, ◌-◌, ◌%◌, ◌^◌, ◌<◌, ◌≤◌, List, [], ◌∷◌, ◌++◌, refl, sym, ap, ◌∙◌, arith, inl, inr}
-use Rattle.std.proofs.lemmas.Bool.{cases_eq}
+use Rattle.std.proofs.Common.{◌≡◌, ℕ, ◌+◌, ◌-◌, ◌%◌, ◌^◌, ◌<◌, ◌≤◌, List, [], ◌∷◌, ◌++◌, refl, sym, ap, ◌∙◌, arith}
 use Rattle.byteorder.specs.Endian.{big_bytes}
-use Rattle.rep_types.specs.declared.ids.Cluster.{Cluster}
-use Rattle.rep_types.specs.declared.ids.Cluster.TheVariants.{A, B, C}
 use Rattle.wal_entry.specs.Frame.{cluster_of}
 use Rattle.wal_entry.specs.Spelling.{cluster_number}
 use Rattle.wal_entry.proofs.Numbers.{size_1, size_2, size_4}
+use Rattle.wal_entry.proofs.Origin.{cluster_number-of, cluster_of-number, cluster_range}
 use Rattle.wal_entry.proofs.Places.{IsBytes}
 use Rattle.wire_batch.specs.declared.heading.Heading.{Heading}
 use Rattle.wire_batch.specs.Grammar.{heading}
@@ -33,27 +31,6 @@ pub record IsHeadingAt (p : Place) (h : Heading) (q : Place) : Type 0 where
   pub parts : p.rest ≡ heading_spelling h ++ q.rest
   pub at : q.at ≡ p.at + 16
   pub fits : IsBytes q.rest
-
-cluster_number-of : (n : ℕ) → 1 ≤ n → n ≤ 3 → cluster_number (cluster_of n) ≡ n
-cluster_number-of n least most =
-    elim (cases_eq n 1) [
-      | inl one ↦ rw one refl
-      | inr not_one ↦
-          elim (cases_eq n 2) [
-            | inl two ↦ rw two refl
-            | inr not_two ↦ let three : n ≡ 3 = omega (arith, not_one, not_two) in rw three refl
-          ]
-    ]
-
-cluster_of-number : (c : Cluster) → cluster_of (cluster_number c) ≡ c
-cluster_of-number A = refl
-cluster_of-number B = refl
-cluster_of-number C = refl
-
-cluster_few : (c : Cluster) → (1 ≤ cluster_number c) × (cluster_number c ≤ 3)
-cluster_few A = (omega arith, omega arith)
-cluster_few B = (omega arith, omega arith)
-cluster_few C = (omega arith, omega arith)
 
 byte_is : (n : ℕ) → n < 256 → big_bytes 1 n ≡ n ∷ []
 byte_is n fits = let same : n % 256 ≡ n = omega arith in rw same refl
@@ -107,7 +84,7 @@ heading_takes p q h fits e =
 pub heading_again : (h : Heading) (rest : List ℕ) → IsHeading h → heading (record { at = 0; rest = heading_spelling h ++ rest }) ≡ Whole h (record { at = 16; rest = rest })
 unfolding heading
 heading_again h rest is =
-    let few = cluster_few h.cluster in
+    let few = cluster_range h.cluster in
     let r6 = big_bytes 2 0 ++ rest in
     let r5 = big_bytes 2 h.count ++ r6 in
     let r4 = big_bytes 4 h.flight ++ r5 in

@@ -1,23 +1,12 @@
 ghost use Rattle.std.specs.Prelude.{◌≡◌, ◌≤◌, ◌+◌, ◌++◌, length, take, sum_by, All, OnOk, OnErr};
 ghost use Rattle.wal_entry.specs.Length.{frame_length_of};
-ghost use Rattle.wal_entry.specs.Spelling.{cluster_number};
 ghost use Rattle.wire_batch.specs.Batches.{IsForm, IsSendable};
 ghost use Rattle.wire_batch.specs.Spelling.{heading_of, forms_spelling, heading_spelling, batch_spelling};
 
 use crate::Batch;
 use crate::heading::Heading;
-use rep_types::{Bytes, Cluster, Entry, Memory};
-use wal_entry::{encode_frame, entry_length};
-
-fn cluster_number(cluster: Cluster) -> u8
-    ensures { result ≡ cluster_number cluster }
-{
-    match cluster {
-        Cluster::A => 1,
-        Cluster::B => 2,
-        Cluster::C => 3,
-    }
-}
+use rep_types::{Bytes, Entry, Memory};
+use wal_entry::{cluster_number, encode_frame, entry_length};
 
 // The length of the frames together.
 fn frames_length(forms: &[Entry]) -> u32

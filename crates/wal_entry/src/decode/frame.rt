@@ -1,13 +1,14 @@
 ghost use Rattle.std.specs.Prelude.{◌≡◌, ◌≤◌, ◌+◌, ◌==◌, IfOk};
 ghost use Rattle.std.specs.List.{list_all};
 ghost use Rattle.wal_entry.specs.Judging.{judge};
-ghost use Rattle.wal_entry.specs.Frame.{padding, cluster_of, origin_of, of_origin, from_region, fields, entry_of, frame_length};
+ghost use Rattle.wal_entry.specs.Frame.{padding, origin_of, of_origin, from_region, fields, entry_of, frame_length};
 ghost use Rattle.wal_entry.specs.Steps.{place, Reads};
 
 use super::cursor::{Cursor, Stop};
 use super::item::{item, number};
+use crate::spell::cluster_of;
 use byteorder::{BigEndian, ByteOrder};
-use rep_types::{Cluster, Entry, EntryId, EntryKind, Origin, PeerId, RegionId};
+use rep_types::{Entry, EntryId, EntryKind, Origin, PeerId, RegionId};
 
 /// The fields after the length.
 #[derive(Clone, Copy)]
@@ -44,16 +45,6 @@ pub fn padding_of<'a>(here: Cursor<'a>) -> Result<((), Cursor<'a>), Stop>
         });
     }
     Ok(((), next))
-}
-
-fn cluster_of(number: u64) -> Cluster
-    ensures { result ≡ cluster_of number }
-{
-    match number {
-        1 => Cluster::A,
-        2 => Cluster::B,
-        _ => Cluster::C,
-    }
 }
 
 // The origin of a peer that isn't 0.

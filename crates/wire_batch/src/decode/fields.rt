@@ -1,5 +1,4 @@
 ghost use Rattle.std.specs.Prelude.{◌≡◌, ◌≤◌, ◌+◌, IfOk};
-ghost use Rattle.wal_entry.specs.Frame.{cluster_of};
 ghost use Rattle.wire_batch.specs.Answers.{place, Reads};
 ghost use Rattle.wire_batch.specs.Grammar.{heading};
 ghost use Rattle.wire_batch.specs.Reading.{number};
@@ -8,7 +7,8 @@ use super::cursor::Cursor;
 use crate::BatchError;
 use crate::heading::Heading;
 use byteorder::{BigEndian, ByteOrder};
-use rep_types::{Cluster, PeerId, ServerId};
+use rep_types::{PeerId, ServerId};
+use wal_entry::cluster_of;
 
 // A number of so many bytes, from low to high, in the first 16 bytes.
 #[tactic(auto, unfolding(crate::specs::Reading::number))]
@@ -46,16 +46,6 @@ fn number<'a>(
         ))
     } else {
         Err(BatchError::BadBatch { at: here.at, rule })
-    }
-}
-
-fn cluster_of(number: u64) -> Cluster
-    ensures { result ≡ cluster_of number }
-{
-    match number {
-        1 => Cluster::A,
-        2 => Cluster::B,
-        _ => Cluster::C,
     }
 }
 

@@ -3,7 +3,7 @@ use Rattle.rep_vault.proofs.memory.MemVaultVault.plan_failure.Goals as goal
 
 pub plan-requires-clause-room : goal.plan-requires-clause-room
 plan-requires-clause-room c =
-    room c.args.self.now.plans c.requires.room
+    room c.args.call c.args.self.now.plans c.requires.room
 
 pub returns-clause-ok : goal.returns-clause-ok
 returns-clause-ok c =
