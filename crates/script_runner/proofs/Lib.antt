@@ -7,3 +7,4 @@ pub mod Printing
 pub mod Scripted
 pub mod Serving
 pub mod Told
+pub mod Worded
