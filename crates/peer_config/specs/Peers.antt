@@ -1,28 +1,14 @@
 -- The peers of a cluster in the order in which they were added, what may be done, and what it changes.
-use Rattle.std.specs.Prelude.{ℕ, ◌≡◌, ◌==◌, List, [], ◌∷◌, Bool, true, false, Option, Some, None, Result, IsOk, Ok, Err, if◌then◌else◌, is_some, find}
+use Rattle.std.specs.Prelude.{ℕ, ◌≡◌, ◌==◌, List, [], ◌∷◌, Bool, false, Option, Some, None, Result, IsOk, Ok, Err, if◌then◌else◌, is_some, find}
 use Rattle.std.specs.List.{list_any}
 use Rattle.rep_types.specs.declared.state.Kind.{Kind}
 use Rattle.rep_types.specs.declared.state.Kind.TheVariants as kind
 use Rattle.peer_config.specs.declared.peer.Peer.{Peer}
-use Rattle.peer_config.specs.declared.peer.Standing.{Standing}
-use Rattle.peer_config.specs.declared.peer.Standing.TheVariants as standing
+use Rattle.rep_model.specs.declared.machine.Standing.{Standing}
+use Rattle.rep_model.specs.declared.machine.Standing.TheVariants as standing
+use Rattle.rep_model.specs.Peers.{is_removed, is_synchronous}
 use Rattle.peer_config.specs.declared.error.PeerError.{PeerError}
 use Rattle.peer_config.specs.declared.error.PeerError.TheVariants as error
-
-abbrev pub is_removed : Standing → Bool
-is_removed standing.Enabled = false
-is_removed standing.Disabled = false
-is_removed standing.Removed = true
-
-abbrev pub is_synchronous : Kind → Bool
-is_synchronous kind.Plain = false
-is_synchronous kind.Serial = false
-is_synchronous kind.Synchronous = true
-
-abbrev pub is_serial : Kind → Bool
-is_serial kind.Plain = false
-is_serial kind.Serial = true
-is_serial kind.Synchronous = false
 
 abbrev pub is_peer : ℕ → Peer → Bool
 is_peer p x = x.number == p

@@ -1,6 +1,9 @@
 // What is shipped of an entry.
 ghost use Rattle.std.specs.Prelude.{◌≡◌, IfOk};
-ghost use Rattle.peer_config.specs.Forms.{mark, is_marked, has_table, form_of_kind, form};
+ghost use Rattle.rep_model.specs.State.{mark};
+ghost use Rattle.rep_model.specs.Forms.{is_marked};
+ghost use Rattle.rep_model.specs.Peers.{has_table};
+ghost use Rattle.peer_config.specs.Forms.{form_of_kind, form};
 
 use rep_types::{Cluster, Edit, Entry, EntryKind, Families, Memory, Name, Names};
 use std::alloc::Global;

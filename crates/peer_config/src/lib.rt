@@ -7,5 +7,5 @@ mod peer;
 mod peers;
 
 pub use error::PeerError;
-pub use peer::{Peer, Standing};
+pub use peer::Peer;
 pub use peers::Peers;

@@ -1,14 +1,8 @@
+use rep_model::Standing;
 use rep_types::{Kind, Names, PeerId};
 
-/// A removed peer's number isn't used again.
-#[derive(Clone, Copy, PartialEq, Eq)]
-pub enum Standing {
-    Enabled,
-    Disabled,
-    Removed,
-}
-
-/// A peer and the tables that it covers (HBase Reference Guide, Cluster Replication).
+/// A peer and the tables that it covers (HBase Reference Guide, Cluster Replication). A removed peer's number isn't used
+/// again.
 #[derive(Drop)]
 pub struct Peer {
     pub number: PeerId,

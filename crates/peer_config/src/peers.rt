@@ -1,12 +1,14 @@
 ghost use Rattle.std.specs.Prelude.{◌≡◌, ◌++◌, [], ◌∷◌, None, Err, IfSome, OnOk, OnErr, IsOkUnless, position};
 ghost use Rattle.std.specs.Option.{option_copied};
-ghost use Rattle.peer_config.specs.Peers.{is_peer, added, peer_of, is_synchronous, has_synchronous, taken, add_refusal, no_peer, remove_bar, serial_bar, remove_refusal, serial_refusal, Answers, Forms, is_removed, new_peer, changed, stands, as_serial};
+ghost use Rattle.peer_config.specs.Peers.{is_peer, added, peer_of, has_synchronous, taken, add_refusal, no_peer, remove_bar, serial_bar, remove_refusal, serial_refusal, Answers, Forms, new_peer, changed, stands, as_serial};
 ghost use Rattle.peer_config.specs.Forms.{form};
-ghost use Rattle.peer_config.specs.declared.peer.Standing.TheVariants as standing;
+ghost use Rattle.rep_model.specs.declared.machine.Standing.TheVariants as standing;
+ghost use Rattle.rep_model.specs.Peers.{is_removed, is_synchronous};
 ghost use Rattle.peer_config.specs.declared.error.PeerError.TheVariants as error;
 
 use crate::forming::form_of;
-use crate::{Peer, PeerError, Standing};
+use crate::{Peer, PeerError};
+use rep_model::Standing;
 use rep_types::{Cluster, Edit, Entry, Families, Items, Kind, Names, PeerId};
 use std::alloc::Global;
 use std::marker::Model;
