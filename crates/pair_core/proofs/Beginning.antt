@@ -12,6 +12,7 @@ use Rattle.cluster_core.specs.Stands.{Stands, RecordAt, empty_core}
 use Rattle.pair_core.specs.Sides.{AllStand, Covers, empty_sides}
 use Rattle.pair_core.specs.Pair.{IsPair, both}
 use Rattle.pair_core.proofs.Runs.{legal-new, state-new, faults-new}
+use Rattle.pair_core.proofs.Told.{told-none}
 
 none_told : (k : RecordKey) → RecordAt new_contents empty_side k
 none_told (OfTable t) = refl
@@ -49,6 +50,8 @@ pair_begins contents tally a b new_a new_b = record {
   });
   covers_a = subst (λ (n : Counts). Covers (n A) (tally a)) (sym faults-new) (covers_none (tally a));
   covers_b = subst (λ (n : Counts). Covers (n B) (tally b)) (sym faults-new) (covers_none (tally b));
+  told_a = λ k. told-none A k ((tally a).faults k);
+  told_b = λ k. told-none B k ((tally b).faults k);
   few = subst (λ (m : Machine). length m.tickets ≤ 0) (sym state-new) none;
 }
   where

@@ -3,6 +3,7 @@ mod Runs
 mod Seen
 mod Steps
 mod Storing
+mod Told
 mod Viewed
 mod Living
 mod SeenQueue

@@ -27,8 +27,10 @@ use Rattle.pair_core.specs.declared.sides.Sides.{Sides}
 use Rattle.pair_core.specs.Sides.{Both, AllStand, Covers}
 use Rattle.pair_core.specs.Performs.{Done, Performs, changed_of, RoseIn, FaultRose}
 use Rattle.pair_core.specs.Pair.{IsPair, both}
+use Rattle.pair_core.specs.Told.{told_of}
 use Rattle.pair_core.proofs.Runs.{legal-push, state-push, faults-push, faults-third}
 use Rattle.pair_core.proofs.Seen.{at_most_one}
+use Rattle.pair_core.proofs.Told.{rose_at, told-next, told-kept}
 
 -- ---- counts
 
@@ -113,6 +115,8 @@ pair_goes_on contents tally journal sides left a b c d e said actor pair worded 
       stand = λ _. subst (λ (m : Machine). AllStand (both contents c d) left m) (after_row (state_of journal) r ∙ sym (state-push journal r)) done.stand;
       covers_a = subst (λ (n : Counts). Covers (n A) (tally c)) (sym (faults-push journal r)) (same_sum (tally c));
       covers_b = subst (λ (n : Counts). Covers (n B) (tally d)) (sym (faults-push journal r)) (same_sum (tally d));
+      told_a = λ k. told-next A k journal r ((tally a).faults k) ((tally c).faults k) (pair.told_a k) (counts_a.kept k) (rose_at A k said (both tally a b) (both tally c d) rose);
+      told_b = λ k. told-next B k journal r ((tally b).faults k) ((tally d).faults k) (pair.told_b k) (counts_b.kept k) (rose_at B k said (both tally a b) (both tally c d) rose);
       few = subst (λ (m : Machine). length m.tickets ≤ length (journal ++ r ∷ [])) (after_row (state_of journal) r ∙ sym (state-push journal r))
           (fewer (length (state_of journal).tickets) (length journal) (length (row Pair e said (state_of journal)).state.tickets) (length (journal ++ r ∷ [])) (accepted (row Pair e said (state_of journal)).reply) pair.few grows.tickets (at_most_one (row Pair e said (state_of journal)).reply) (length-append journal (r ∷ [])));
     }
@@ -126,6 +130,8 @@ pair_spent contents tally journal spent sides left a b c d pair counts_a counts_
   stand = λ e. absurd (true≢false e);
   covers_a = still_covers (faults_of journal A) (tally a) (tally c) counts_a pair.covers_a;
   covers_b = still_covers (faults_of journal B) (tally b) (tally d) counts_b pair.covers_b;
+  told_a = told-kept (λ k. told_of A k journal) (tally a) (tally c) counts_a.kept pair.told_a;
+  told_b = told-kept (λ k. told_of B k journal) (tally b) (tally d) counts_b.kept pair.told_b;
   few = pair.few;
 }
 
@@ -139,6 +145,8 @@ pair_stops contents tally journal false sides left a b c d pair kept counts_a co
       (subst (λ (x : Both Contents). AllStand x sides (state_of journal)) (sym (kept refl).1) (pair.stand refl));
   covers_a = still_covers (faults_of journal A) (tally a) (tally c) counts_a pair.covers_a;
   covers_b = still_covers (faults_of journal B) (tally b) (tally d) counts_b pair.covers_b;
+  told_a = told-kept (λ k. told_of A k journal) (tally a) (tally c) counts_a.kept pair.told_a;
+  told_b = told-kept (λ k. told_of B k journal) (tally b) (tally d) counts_b.kept pair.told_b;
   few = pair.few;
 }
 

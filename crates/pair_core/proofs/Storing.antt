@@ -20,6 +20,7 @@ use Rattle.cluster_core.specs.Stands.{Stands, StationAt, is_station}
 use Rattle.pair_core.specs.declared.sides.Sides.{Sides}
 use Rattle.pair_core.specs.Sides.{Both, AllStand, Covers}
 use Rattle.pair_core.specs.Stored.{LogsAt, Holds, Stored}
+use Rattle.pair_core.specs.Told.{CountsTold}
 
 logs_at : (c : Contents) (side : Side) (s : ℕ) (st : Option Station) (srv : Option Server) → StationAt c side s st srv → LogsAt c side s srv
 logs_at c side s (Some st) (Some srv) at = (st.host, at.logs)
@@ -53,3 +54,8 @@ pub covered_now : {V : Type 0} (contents : V → Contents) (tally : V → Tally)
     → IsPair contents tally journal spent sides a b → Covers (faults_of p.journal A) (tally p.a) × Covers (faults_of p.journal B) (tally p.b)
 covered_now contents tally p journal spent sides a b is pair =
     subst (λ (q : PairValue _). Covers (faults_of q.journal A) (tally q.a) × Covers (faults_of q.journal B) (tally q.b)) (sym is) (pair.covers_a, pair.covers_b)
+
+pub told_now : {V : Type 0} (contents : V → Contents) (tally : V → Tally) (p : PairValue V) (journal : List Record) (spent : Bool) (sides : Sides) (a b : V) → p ≡ record { journal = journal; spent = spent; a = a; b = b }
+    → IsPair contents tally journal spent sides a b → CountsTold A p.journal (tally p.a) × CountsTold B p.journal (tally p.b)
+told_now contents tally p journal spent sides a b is pair =
+    subst (λ (q : PairValue _). CountsTold A q.journal (tally q.a) × CountsTold B q.journal (tally q.b)) (sym is) (pair.told_a, pair.told_b)

@@ -4,4 +4,5 @@ pub mod Performs
 pub mod Served
 pub mod Sides
 pub mod Stored
+pub mod Told
 pub mod Views

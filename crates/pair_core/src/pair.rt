@@ -15,6 +15,7 @@ ghost use Rattle.pair_core.specs.Performs.{changed_of, FaultRose};
 ghost use Rattle.pair_core.specs.Served.{is_served};
 ghost use Rattle.pair_core.specs.Sides.{Covers};
 ghost use Rattle.pair_core.specs.Stored.{Stored};
+ghost use Rattle.pair_core.specs.Told.{CountsTold};
 
 use crate::performing::perform;
 use crate::sides::{Sides, core_of};
@@ -187,10 +188,10 @@ impl<V: Vault> Pair<V> {
         bytes: u32,
     ) -> Result<(), Memory>
         requires nth { 1 ≤ nth }
-        requires room_a { IfSome (V.tally self.old.a).planned (λ n. n < 2 ^ 32 - 1) }
-        requires room_b { IfSome (V.tally self.old.b).planned (λ n. n < 2 ^ 32 - 1) }
+        requires room_a { IfSome (V.tally self.old.a).planned (λ n. n call < 2 ^ 32 - 1) }
+        requires room_b { IfSome (V.tally self.old.b).planned (λ n. n call < 2 ^ 32 - 1) }
         ensures same { IsSame V.contents self.old self.new }
-        ensures planned { IsPlanned cluster (both V.tally self.old.a self.old.b) (both V.tally self.new.a self.new.b) result }
+        ensures planned { IsPlanned cluster call (both V.tally self.old.a self.old.b) (both V.tally self.new.a self.new.b) result }
     {
         match cluster {
             Cluster::A => self.a.plan_failure(call, nth, bytes),
@@ -220,6 +221,9 @@ impl<V: Vault> Pair<V> {
         // No record tells more faults of a store than it has counted: the last tells the most.
         ensures covers_a { Covers (faults_of self.journal cluster.A) (V.tally self.a) }
         ensures covers_b { Covers (faults_of self.journal cluster.B) (V.tally self.b) }
+        // Nor do all records together tell more faults of one kind of call.
+        ensures told_a { CountsTold cluster.A self.journal (V.tally self.a) }
+        ensures told_b { CountsTold cluster.B self.journal (V.tally self.b) }
     {
         Stores {
             a: self.a,

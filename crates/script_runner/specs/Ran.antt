@@ -9,6 +9,7 @@ use Rattle.rep_vault.specs.Contents.{Contents}
 use Rattle.rep_vault.specs.Tallies.{Tally}
 use Rattle.pair_core.specs.Sides.{Both, Covers}
 use Rattle.pair_core.specs.Stored.{Stored}
+use Rattle.pair_core.specs.Told.{CountsTold}
 use Rattle.script_text.specs.declared.command.Command.{Command}
 use Rattle.script_text.specs.declared.command.Input.TheVariants.{Run}
 use Rattle.script_text.specs.Lines.{lines_of}
@@ -20,8 +21,8 @@ use Rattle.script_runner.specs.Plans.{CountsFew}
 use Rattle.script_runner.specs.Told.{TellsFew}
 
 -- A legal journal of all the events of these commands, which keeps the laws, and of which the sink got what is said. The stores hold
--- what the state after it has in logs and records, and count no fewer faults than its records tell and no more than the commands plan: so
--- without `fail` lines for a store no record tells a fault of it.
+-- what the state after it has in logs and records, and count of each kind of call no fewer faults than its records tell and, where they
+-- tell their plans, no more than the commands plan: there a record that tells a fault has a `fail` line for its store and kind of call.
 pub record Performed (commands : List Command) (got : List ℕ → Type 0) (stores : Both Contents) (tallies : Both Tally) : Type 0 where
   pub journal : List Record
   pub expands : ExpandsFrom opening commands journal
@@ -31,6 +32,8 @@ pub record Performed (commands : List Command) (got : List ℕ → Type 0) (stor
   pub stored : Stored stores (state_of journal)
   pub covers_a : Covers (faults_of journal A) tallies.a
   pub covers_b : Covers (faults_of journal B) tallies.b
+  pub counts_a : CountsTold A journal tallies.a
+  pub counts_b : CountsTold B journal tallies.b
   pub few_a : CountsFew A commands tallies.a
   pub few_b : CountsFew B commands tallies.b
   pub told_a : TellsFew A commands journal tallies.a

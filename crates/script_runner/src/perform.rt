@@ -2,6 +2,7 @@ ghost use Rattle.std.specs.Prelude.{◌≡◌, ◌+◌, ◌-◌, ◌*◌, ◌^�
 ghost use Rattle.std.specs.List.{list_all};
 ghost use Rattle.rep_types.specs.declared.ids.Cluster.TheVariants as cluster;
 ghost use Rattle.rep_types.specs.declared.record.Record.{Record};
+ghost use Rattle.rep_types.specs.declared.state.Call.{Call};
 ghost use Rattle.rep_model.specs.Runs.{IsLegal, state_of};
 ghost use Rattle.report_text.specs.Lines.{lines_from};
 ghost use Rattle.script_text.specs.Due.{Does};
@@ -55,8 +56,8 @@ fn perform<V: Vault>(alloc: Global, pair: &mut Pair<V>, command: &Command) -> Re
     requires served { is_served command.now ≡ true }
     requires usable { pair.old.spent ≡ false }
     requires room { length pair.old.journal + 64 < 2 ^ 32 - 1 }
-    requires room_a { IfSome (V.tally pair.old.a).planned (λ n. n < 2 ^ 32 - 1) }
-    requires room_b { IfSome (V.tally pair.old.b).planned (λ n. n < 2 ^ 32 - 1) }
+    requires room_a { (k : Call) → IfSome (V.tally pair.old.a).planned (λ n. n k < 2 ^ 32 - 1) }
+    requires room_b { (k : Call) → IfSome (V.tally pair.old.b).planned (λ n. n k < 2 ^ 32 - 1) }
     ensures performs { OnOk result ((own : List Record)
         × (pair.new.journal ≡ pair.old.journal ++ own) × Does command.now (state_of pair.old.journal) [] own) }
     ensures usable { OnOk result (pair.new.spent ≡ false) }
@@ -106,8 +107,8 @@ fn perform_printed<V: Vault>(
     requires served { is_served command.now ≡ true }
     requires usable { pair.old.spent ≡ false }
     requires room { length pair.old.journal + 64 < 2 ^ 32 - 1 }
-    requires room_a { IfSome (V.tally pair.old.a).planned (λ n. n < 2 ^ 32 - 1) }
-    requires room_b { IfSome (V.tally pair.old.b).planned (λ n. n < 2 ^ 32 - 1) }
+    requires room_a { (k : Call) → IfSome (V.tally pair.old.a).planned (λ n. n k < 2 ^ 32 - 1) }
+    requires room_b { (k : Call) → IfSome (V.tally pair.old.b).planned (λ n. n k < 2 ^ 32 - 1) }
     ensures printed { OnOk result ((own : List Record) × (pair.new.journal ≡ pair.old.journal ++ own)
         × Does command.now (state_of pair.old.journal) [] own
         × (text.new.items ≡ text.old.items

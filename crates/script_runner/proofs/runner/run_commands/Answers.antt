@@ -2,7 +2,7 @@ use Rattle.script_runner.proofs.Ending.{performed}
 use Rattle.script_runner.proofs.runner.run_commands.Goals as goal
 
 pub returns-in-Ok-clause-ok : goal.returns-in-Ok-clause-ok
-returns-in-Ok-clause-ok g c = λ e. rw c.into_stores-stores.ensures.value (performed g.V.Vault.contents g.V.Vault.tally g.met.V.Vault.bounded _ _ _ _ _ _ c.into_stores-stores.ensures.legal c.into_stores-stores.ensures.stored c.into_stores-stores.ensures.covers_a c.into_stores-stores.ensures.covers_b (c.perform_and_write-status.ensures.ok e))
+returns-in-Ok-clause-ok g c = λ e. rw c.into_stores-stores.ensures.value (performed g.V.Vault.contents g.V.Vault.tally g.met.V.Vault.bounded _ _ _ _ _ _ c.into_stores-stores.ensures.legal c.into_stores-stores.ensures.stored c.into_stores-stores.ensures.covers_a c.into_stores-stores.ensures.covers_b c.into_stores-stores.ensures.told_a c.into_stores-stores.ensures.told_b (c.perform_and_write-status.ensures.ok e))
 
 pub returns-in-Ok-clause-part : goal.returns-in-Ok-clause-part
-returns-in-Ok-clause-part g c = λ e. rw c.into_stores-stores.ensures.value (performed g.V.Vault.contents g.V.Vault.tally g.met.V.Vault.bounded _ _ _ _ _ _ c.into_stores-stores.ensures.legal c.into_stores-stores.ensures.stored c.into_stores-stores.ensures.covers_a c.into_stores-stores.ensures.covers_b (c.perform_and_write-status.ensures.part e))
+returns-in-Ok-clause-part g c = λ e. rw c.into_stores-stores.ensures.value (performed g.V.Vault.contents g.V.Vault.tally g.met.V.Vault.bounded _ _ _ _ _ _ c.into_stores-stores.ensures.legal c.into_stores-stores.ensures.stored c.into_stores-stores.ensures.covers_a c.into_stores-stores.ensures.covers_b c.into_stores-stores.ensures.told_a c.into_stores-stores.ensures.told_b (c.perform_and_write-status.ensures.part e))
