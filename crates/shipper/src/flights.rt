@@ -2,7 +2,7 @@ ghost use Rattle.std.specs.Prelude.{◌≡◌, ◌+◌, ◌-◌, ◌^◌, ◌<�
 ghost use Rattle.std.specs.Option.{option_map};
 ghost use Rattle.wire_batch.specs.Batches.{IsSendable};
 ghost use Rattle.shipper.specs.Queues.{queue_id, queue_of, outstanding_of};
-ghost use Rattle.shipper.specs.Flights.{next_flight, numbered, with_flight, flight_of, queue_at, with_mark, lose_refusal, undelivered, confirm_refusal, ended, Answers};
+ghost use Rattle.shipper.specs.Flights.{next_flight, numbered, with_flight, flight_of, queue_at, with_mark, lose_refusal, is_delivered, undelivered, confirm_refusal, ended, Answers};
 
 use crate::FlightError;
 use crate::queue::{Outstanding, QueueId, end, outstanding_of};
@@ -134,12 +134,20 @@ impl Flights {
         }
     }
 
+    fn is_delivered(&self, flight: u32) -> bool
+        ensures { result ≡ is_delivered flight self.now }
+    {
+        let at = (flight as usize).saturating_sub(1);
+        self.delivered.get(at).copied().unwrap_or(false)
+    }
+
     fn whole(&self, flight: u32) -> Result<(), FlightError>
         ensures { Answers (undelivered flight self.now) result }
     {
-        match self.delivered.get(flight as usize - 1) {
-            Some(true) => Ok(()),
-            _ => Err(FlightError::NotDelivered { flight }),
+        if self.is_delivered(flight) {
+            Ok(())
+        } else {
+            Err(FlightError::NotDelivered { flight })
         }
     }
 

@@ -41,16 +41,20 @@ fn type_kind(kind: &EntryKind)
     }
 }
 
-fn type_origin(origin: &Option<Origin>)
+fn type_origin(origin: &Origin)
+    ensures { IsTypedOrigin origin.now }
+{
+    let _peer = origin.peer.number();
+    let _region = origin.entry.region.number();
+    let _seq = origin.entry.seq;
+}
+
+fn type_some_origin(origin: &Option<Origin>)
     ensures { IfSome origin.now IsTypedOrigin }
 {
     match origin {
         None => {}
-        Some(origin) => {
-            let _peer = origin.peer.number();
-            let _region = origin.entry.region.number();
-            let _seq = origin.entry.seq;
-        }
+        Some(origin) => type_origin(origin),
     }
 }
 
@@ -60,7 +64,7 @@ fn type_form(form: &Entry)
     let _region = form.region.number();
     let _seq = form.seq;
     type_kind(&form.kind);
-    type_origin(&form.origin);
+    type_some_origin(&form.origin);
 }
 
 fn type_forms(forms: &[Entry])
