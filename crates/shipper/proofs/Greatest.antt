@@ -8,7 +8,7 @@ use Rattle.rep_types.specs.declared.entry.Entry.{Entry}
 use Rattle.rep_types.specs.declared.ids.Cluster.{Cluster}
 use Rattle.region_barriers.specs.History.{History}
 use Rattle.serial_gate.specs.Gate.{reach}
-use Rattle.shipper.specs.Batches.{greatest, Reaches, come, admission, gate_of}
+use Rattle.shipper.specs.Batches.{greatest, Reaches, admission, gate_of}
 
 max_zero : (y : ℕ) → max y 0 ≡ max 0 y
 max_zero y = omega arith

@@ -4,7 +4,6 @@ use Rattle.last_ids.specs.Ids.{last_of}
 use Rattle.last_ids.specs.declared.ids.LastId.{LastId}
 use Rattle.region_barriers.specs.History.{History}
 use Rattle.rep_types.specs.declared.entry.Entry.{Entry}
-use Rattle.rep_types.specs.declared.entry.EntryId.{EntryId}
 use Rattle.rep_types.specs.declared.ids.Cluster.{Cluster}
 use Rattle.serial_gate.specs.Gate.{gate}
 use Rattle.serial_gate.specs.declared.gate.Admission.{Admission}
