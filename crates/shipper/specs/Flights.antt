@@ -1,5 +1,5 @@
 -- Every flight that was sent, what may be done with it, and what that changes.
-use Rattle.std.specs.Prelude.{ℕ, ◌≡◌, ◌+◌, ◌-◌, ◌==◌, List, [], ◌∷◌, ◌++◌, length, Bool, true, false, Option, Some, None, Result, Err, IsOk, nat_le, slice_get, slice_set, if◌then◌else◌}
+use Rattle.std.specs.Prelude.{ℕ, ◌≡◌, ◌+◌, ◌-◌, ◌==◌, List, [], ◌∷◌, ◌++◌, length, Bool, true, false, Option, Some, None, Result, Err, IsOk, nat_le, slice_get, slice_set, All, if◌then◌else◌}
 use Rattle.std.specs.Option.{option_map, unwrap_or}
 use Rattle.wire_batch.specs.declared.batch.Batch.{Batch}
 use Rattle.shipper.specs.declared.error.FlightError.{FlightError}
@@ -30,12 +30,12 @@ with_flight b f = record {
 }
 
 -- what was sent under a number
-abbrev pub flight_of : ℕ → FlightsValue → Option Batch
-flight_of n f = if nat_le 1 n then slice_get f.batches (n - 1) else None
+abbrev pub flight_of : ℕ → List Batch → Option Batch
+flight_of n batches = if nat_le 1 n then slice_get batches (n - 1) else None
 
 -- the queue of what was sent under a number
-abbrev pub queue_at : ℕ → FlightsValue → Option QueueId
-queue_at n f = option_map queue_of (flight_of n f)
+abbrev pub queue_at : ℕ → List Batch → Option QueueId
+queue_at n batches = option_map queue_of (flight_of n batches)
 
 -- the flight was marked as delivered whole
 abbrev pub is_delivered : ℕ → FlightsValue → Bool
@@ -58,7 +58,7 @@ refusal_in n os (Some queue) = stale n (outstanding_of queue os)
 
 -- why a flight isn't lost
 abbrev pub lose_refusal : ℕ → FlightsValue → Option FlightError
-lose_refusal n f = refusal_in n f.outstanding (queue_at n f)
+lose_refusal n f = refusal_in n f.outstanding (queue_at n f.batches)
 
 abbrev pub undelivered : ℕ → FlightsValue → Option FlightError
 undelivered n f = if is_delivered n f then None else Some (NotDelivered n)
@@ -78,9 +78,18 @@ ended_of (Some queue) f = record f { outstanding = without queue f.outstanding }
 
 -- the queue of the flight has none
 abbrev pub ended : ℕ → FlightsValue → FlightsValue
-ended n f = ended_of (queue_at n f) f
+ended n f = ended_of (queue_at n f.batches) f
 
 -- a call answers its refusal, and is done where there is none
 abbrev pub Answers : {T : Type 0} → Option FlightError → Result T FlightError → Type 0
 Answers None result = IsOk result
 Answers (Some e) result = result ≡ Err e
+
+-- the outstanding flight was sent, and of that queue
+abbrev pub IsOut : List Batch → Outstanding → Type 0
+IsOut batches o = queue_at o.flight batches ≡ Some o.queue
+
+-- each flight is marked or not, and those outstanding were sent
+pub record IsFlights (f : FlightsValue) : Type 0 where
+  pub marks : length f.delivered ≡ length f.batches
+  pub known : All (IsOut f.batches) f.outstanding

@@ -1,4 +1,4 @@
-ghost use Rattle.std.specs.Prelude.{◌≡◌, ◌+◌, ◌-◌, ◌^◌, ◌<◌, [], None, Some, length, IfOk, OnOk, OnErr, IsSome};
+ghost use Rattle.std.specs.Prelude.{◌≡◌, ◌+◌, ◌-◌, ◌^◌, ◌<◌, [], None, Some, length, IfOk, OnOk, OnErr, IsSome, IfSome};
 ghost use Rattle.std.specs.Option.{option_map};
 ghost use Rattle.wire_batch.specs.Batches.{IsSendable};
 ghost use Rattle.shipper.specs.Queues.{queue_id, queue_of, outstanding_of};
@@ -23,14 +23,13 @@ pub struct Flights {
 }
 
 impl Model for Flights {
-    ghost use Rattle.std.specs.Prelude.{◌≡◌, length};
-    ghost use Rattle.shipper.specs.Flights.{FlightsValue};
+    ghost use Rattle.shipper.specs.Flights.{FlightsValue, IsFlights};
 
     ghost Value = { FlightsValue };
 
     ghost view = { λ f. record { batches = f.sent; delivered = f.delivered.items; outstanding = f.outstanding.items } };
 
-    ghost invariant = { λ f. length f.delivered.items ≡ length f.sent };
+    ghost invariant = { λ f. IsFlights (record { batches = f.sent; delivered = f.delivered.items; outstanding = f.outstanding.items }) };
 }
 
 impl Flights {
@@ -80,7 +79,7 @@ impl Flights {
 
     /// The batch that was sent under the number; none exactly where no flight has it.
     pub fn batch(&self, alloc: Global, flight: u32) -> Result<Option<Batch>, Memory>
-        ensures { IfOk result (λ found. found ≡ flight_of flight self.now) }
+        ensures { IfOk result (λ found. found ≡ flight_of flight self.now.batches) }
     {
         if flight == 0 {
             Ok(None)
@@ -90,7 +89,7 @@ impl Flights {
     }
 
     fn queue(&self, flight: u32) -> Option<QueueId>
-        ensures { result ≡ queue_at flight self.now }
+        ensures { result ≡ queue_at flight self.now.batches }
     {
         if flight == 0 {
             None
@@ -101,7 +100,7 @@ impl Flights {
 
     /// All forms of the flight arrived.
     pub fn mark_all(&mut self, flight: u32)
-        requires { IsSome (flight_of flight self.old) }
+        requires { IsSome (flight_of flight self.old.batches) }
         ensures { self.new ≡ with_mark flight self.old }
     {
         self.delivered[flight as usize - 1] = true;
@@ -109,7 +108,9 @@ impl Flights {
 
     /// The outstanding flight of a queue, if it has one.
     pub fn outstanding(&self, cluster: Cluster, peer: PeerId, server: ServerId) -> Option<u32>
-        ensures { result ≡ outstanding_of (queue_id cluster peer server) self.now.outstanding }
+        ensures value { result ≡ outstanding_of (queue_id cluster peer server) self.now.outstanding }
+        // It is a flight of that queue.
+        ensures known { IfSome result (λ flight. queue_at flight self.now.batches ≡ Some (queue_id cluster peer server)) }
     {
         let queue = QueueId {
             cluster,
@@ -122,7 +123,7 @@ impl Flights {
     // The queue whose outstanding flight this is.
     fn current(&self, flight: u32) -> Result<QueueId, FlightError>
         ensures answers { Answers (lose_refusal flight self.now) result }
-        ensures queue { IfOk result (λ queue. queue_at flight self.now ≡ Some queue) }
+        ensures queue { IfOk result (λ queue. queue_at flight self.now.batches ≡ Some queue) }
     {
         let Some(queue) = self.queue(flight) else {
             return Err(FlightError::NoFlight);

@@ -11,6 +11,7 @@
 mod error;
 mod flights;
 mod forming;
+mod laws;
 mod queue;
 mod reserve;
 mod sent;
@@ -19,4 +20,5 @@ mod typed;
 pub use error::FlightError;
 pub use flights::Flights;
 pub use forming::{Formed, form_batch};
+pub use laws::one_flight_a_queue;
 pub use queue::QueueId;
