@@ -1,0 +1,4 @@
+pub mod Batches
+pub mod Flights
+pub mod Queues
+pub mod Sent
