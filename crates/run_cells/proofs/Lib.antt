@@ -1,0 +1,3 @@
+mod Best
+mod Order
+mod Sorted
