@@ -1,3 +1,4 @@
 mod Best
 mod Order
+mod Passing
 mod Sorted

@@ -1,4 +1,5 @@
-ghost use Rattle.std.specs.Prelude.{◌≡◌, true, IfOk};
+ghost use Rattle.std.specs.Prelude.{◌≡◌, [], ◌∷◌, ◌++◌, true, IfOk, OnOk};
+ghost use Rattle.std.specs.List.{filter_map};
 ghost use Rattle.store_file.specs.Order.{are_in_order};
 ghost use Rattle.run_cells.specs.Outdone.{view_of_put, shown};
 
@@ -7,18 +8,19 @@ use rep_types::{CellKind, CellView, Duplicate, Memory, Views};
 use std::alloc::Global;
 use store_file::RunCell;
 
-fn view_of_put(alloc: Global, cell: &RunCell) -> Result<Option<CellView>, Memory>
-    ensures { IfOk result (λ view. view ≡ view_of_put cell.now) }
+// Adds what the cell shows, if it is a put.
+fn push_view(alloc: Global, views: &mut Views, cell: &RunCell) -> Result<(), Memory>
+    ensures { OnOk result (views.new ≡ views.old ++ filter_map view_of_put (cell.now ∷ [])) }
 {
     match &cell.kind {
-        CellKind::Put(value) => Ok(Some(CellView {
+        CellKind::Put(value) => views.push(CellView {
             row: cell.row.copy(alloc)?,
             family: cell.family.copy(alloc)?,
             qualifier: cell.qualifier.copy(alloc)?,
             stamp: cell.stamp,
             value: value.copy(alloc)?,
-        })),
-        CellKind::Erase => Ok(None),
+        }),
+        CellKind::Erase => Ok(()),
     }
 }
 
@@ -29,10 +31,8 @@ pub fn show(alloc: Global, cells: &[RunCell]) -> Result<Views, Memory>
 {
     let mut views = Views::new(alloc);
     for (at, cell) in cells.iter().enumerate() {
-        if !is_outdone(cells, at)
-            && let Some(view) = view_of_put(alloc, cell)?
-        {
-            views.push(view)?;
+        if !is_outdone(cells, at) {
+            push_view(alloc, &mut views, cell)?;
         }
     }
     Ok(views)
