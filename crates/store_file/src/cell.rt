@@ -18,8 +18,8 @@ pub struct RunCell {
 pub type RunCells = Items<RunCell>;
 
 impl RunCell {
-    // By row, family and qualifier.
-    fn place_order(&self, other: &RunCell) -> Ordering
+    /// By row, family and qualifier.
+    pub fn place_order(&self, other: &RunCell) -> Ordering
         ensures { result ≡ place_order self.now other.now }
     {
         match self.row.cmp(&other.row) {

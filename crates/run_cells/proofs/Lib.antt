@@ -1,0 +1,4 @@
+mod Best
+mod Order
+mod Passing
+mod Sorted

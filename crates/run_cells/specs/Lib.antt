@@ -1,0 +1,2 @@
+pub mod Outdone
+pub mod Steps

@@ -1,0 +1,14 @@
+//! Lists of cells in the order of a run: which of them count, and what they show. Of a column (a row, a family and a qualifier) a
+//! run has the versions by timestamp and then by rank, of which the greater comes first (as HBase's KeyValues are sorted, Reference
+//! Guide, "KeyValue"; ranks are this project's own). A delete hides the puts at or below its timestamp, also those with a greater
+//! rank (Reference Guide, "Delete markers mask puts").
+#![tactic(auto)]
+
+mod compaction;
+mod laws;
+mod outdone;
+mod views;
+
+pub use compaction::compact;
+pub use laws::{compaction_outdoes_the_same, compaction_shows_the_same};
+pub use views::show;
