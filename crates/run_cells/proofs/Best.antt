@@ -1,7 +1,6 @@
 -- Each cell that is outdone is outdone by one that counts.
 use Rattle.std.proofs.Common.{◌≡◌, ℕ, Bool, true, false, cond, List, [], ◌∷◌, ◌++◌, filter, refl, ap, sym, ◌∙◌, arith}
-use Rattle.std.specs.Prelude.{◌==◌, ◌&&◌, ◌||◌, not, nat_le}
-use Rattle.std.specs.declared.cmp.Ordering.TheVariants.{Less}
+use Rattle.std.specs.Prelude.{◌&&◌, ◌||◌, not, nat_le}
 use Rattle.std.specs.List.{list_any}
 use Rattle.std.specs.Ordering.{is_lt}
 use Rattle.std.proofs.lemmas.List.Folds.{list_any-append}
@@ -9,7 +8,7 @@ use Rattle.rep_types.specs.declared.cell.CellKind.{CellKind}
 use Rattle.rep_types.specs.declared.cell.CellKind.TheVariants.{Put, Erase}
 use Rattle.store_file.specs.declared.cell.RunCell.{RunCell}
 use Rattle.store_file.specs.Order.{rank_order, age_order}
-use Rattle.run_cells.specs.Outdone.{is_at, outdone_as, outdone_by, is_outdone, counts_in, compacted, shown, view_of_put}
+use Rattle.run_cells.specs.Outdone.{is_at, outdone_as, outdone_by, is_outdone, counts_in, compacted}
 use Rattle.run_cells.proofs.Order.{age_total, lt-Less, at_trans, not-older, split-and, both-true, not_itself}
 
 stamps-trans : (a b c : ℕ) → nat_le a b ≡ true → nat_le b c ≡ true → nat_le a c ≡ true

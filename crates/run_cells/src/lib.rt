@@ -5,10 +5,14 @@
 #![tactic(auto)]
 
 mod compaction;
+mod cutting;
 mod laws;
+mod merging;
 mod outdone;
 mod views;
 
 pub use compaction::compact;
-pub use laws::{compaction_outdoes_the_same, compaction_shows_the_same};
+pub use cutting::cut;
+pub use laws::{compaction_outdoes_the_same, compaction_shows_the_same, parts_are_in_order};
+pub use merging::merge;
 pub use views::show;
