@@ -89,11 +89,11 @@ best_of (d ∷ ds) c h =
                 first_best c d ds (outdone-trans c m.best d m.outdoes f)
                 (not_true (is_outdone ds d) (λ g. let t : is_outdone ds m.best ≡ true = any_more (outdone_by d) (outdone_by m.best) (λ x. outdone-trans m.best d x f) ds g in let f : is_outdone ds m.best ≡ false = m.counts in cc))
             | false ↦ λ f. record {
-                best = m.best;
-                outdoes = m.outdoes;
-                there = λ p t. second-true (p d) (list_any p ds) (m.there p t);
-                counts = neither (outdone_by m.best d) (is_outdone ds m.best) f m.counts;
-              }
+              best = m.best;
+              outdoes = m.outdoes;
+              there = λ p t. second-true (p d) (list_any p ds) (m.there p t);
+              counts = neither (outdone_by m.best d) (is_outdone ds m.best) f m.counts;
+            }
           ]) refl
       | false ↦ λ e.
           let f : outdone_by c d ≡ true = first-only (outdone_by c d) (is_outdone ds c) h e in
@@ -118,10 +118,10 @@ pub compacted_outdoes : (ds : List RunCell) (c : RunCell) → is_outdone (compac
 compacted_outdoes ds c =
     any_kept (outdone_by c) (counts_in ds) ds
     ∙ same_truth (list_any (λ d. counts_in ds d && outdone_by c d) ds) (is_outdone ds c)
-        (any_more (λ d. counts_in ds d && outdone_by c d) (outdone_by c) (λ d h. (split-and (counts_in ds d) (outdone_by c d) h).1) ds)
-        (λ h.
-            let m = best_of ds c h in
-            m.there (λ d. counts_in ds d && outdone_by c d) (both-true (counts_in ds m.best) (outdone_by c m.best) (ap not m.counts) m.outdoes))
+    (any_more (λ d. counts_in ds d && outdone_by c d) (outdone_by c) (λ d h. (split-and (counts_in ds d) (outdone_by c d) h).1) ds)
+    (λ h.
+    let m = best_of ds c h in
+    m.there (λ d. counts_in ds d && outdone_by c d) (both-true (counts_in ds m.best) (outdone_by c m.best) (ap not m.counts) m.outdoes))
 
 pub compacted_beside : (ds others : List RunCell) (c : RunCell) → is_outdone (compacted ds ++ others) c ≡ is_outdone (ds ++ others) c
 compacted_beside ds others c =

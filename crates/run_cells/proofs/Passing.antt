@@ -19,7 +19,6 @@ there [] at d h = absurd (omega arith)
 there (c ∷ cs) zero d h = refl
 there (c ∷ cs) (suc k) d h = there cs k d (omega arith)
 
-
 at_place : (cells : List RunCell) (at : ℕ) (c : RunCell) → at < length cells → c ≡ get_or cells at c → cells ≡ take at cells ++ c ∷ drop (at + 1) cells
 at_place cells at c h e =
     let one : suc at ≡ at + 1 = omega arith in

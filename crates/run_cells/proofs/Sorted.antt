@@ -127,9 +127,9 @@ found_there p c e d (f ∷ fs) h after before =
     (elim (last_such p fs) as (λ (o : Option RunCell). last_such p fs ≡ o → option_or o (cond (p f) (Some f) None) ≡ Some e → (run_order d e ≡ Less) × (run_order e c ≡ Less)) [
       | Some g ↦ λ k m. found_there p c e d fs (k ∙ m) after.1 before.1
       | None ↦ λ k m. (elim (p f) as (λ (b : Bool). cond b (Some f) None ≡ Some e → (run_order d e ≡ Less) × (run_order e c ≡ Less)) [
-          | true ↦ λ n. let same : f ≡ e = cc in (ap (run_order d) (sym same) ∙ after.0, ap (λ x. run_order x c) (sym same) ∙ before.0)
-          | false ↦ λ n. absurd (cc)
-        ]) m
+        | true ↦ λ n. let same : f ≡ e = cc in (ap (run_order d) (sym same) ∙ after.0, ap (λ x. run_order x c) (sym same) ∙ before.0)
+        | false ↦ λ n. absurd (cc)
+      ]) m
     ]) refl h
 
 not_there : (p : RunCell → Bool) (c : RunCell) (ds : List RunCell) → last_such p ds ≡ None → list_any (λ d. is_at c d && p d) ds ≡ false
@@ -139,9 +139,9 @@ not_there p c (d ∷ ds) h =
     (elim (last_such p ds) as (λ (o : Option RunCell). last_such p ds ≡ o → option_or o (cond (p d) (Some d) None) ≡ None → ((is_at c d && p d) || list_any (λ x. is_at c x && p x) ds) ≡ false) [
       | Some g ↦ λ k m. absurd (cc)
       | None ↦ λ k m. (elim (p d) as (λ (b : Bool). cond b (Some d) None ≡ None → ((is_at c d && b) || list_any (λ x. is_at c x && p x) ds) ≡ false) [
-          | true ↦ λ n. absurd (cc)
-          | false ↦ λ n. ap (λ b. b || list_any (λ x. is_at c x && p x) ds) (no (is_at c d)) ∙ not_there p c ds k
-        ]) m
+        | true ↦ λ n. absurd (cc)
+        | false ↦ λ n. ap (λ b. b || list_any (λ x. is_at c x && p x) ds) (no (is_at c d)) ∙ not_there p c ds k
+      ]) m
     ]) refl h
   where
     no : (a : Bool) → (a && false) ≡ false

@@ -96,7 +96,7 @@ module _ (left right : List RunCell) where
   carry all c d low low' high high' e f g m =
       subst (λ (x : RunCell). Merging left right (all ++ x ∷ []) low' high') (sym (same_Some d c e))
       (subst (λ (ds : List RunCell). Merging left right (all ++ c ∷ []) ds high') (sym f)
-        (subst (λ (ds : List RunCell). Merging left right (all ++ c ∷ []) low ds) (sym g) m))
+      (subst (λ (ds : List RunCell). Merging left right (all ++ c ∷ []) low ds) (sym g) m))
 
   one_right : (all : List RunCell) (d : RunCell) (ds : List RunCell) → Merging left right all [] (d ∷ ds) → Merging left right (all ++ d ∷ []) [] ds
   one_right all d ds m =
@@ -126,9 +126,9 @@ module _ (left right : List RunCell) where
       let same : c ≡ d = m.agree.0.0 q in
       more all c cs ds m.done (each-first all c cs m.under_low) (each-rest all c cs m.under_low) (each-rest all d ds m.under_high) m.low_rises.0 (subst (λ (x : RunCell). AllBehind x ds) (sym same) m.high_rises.0) m.low_rises.1 m.high_rises.1 (agree-rest cs d ds m.agree.1)
       (λ test.
-        ap (λ b. list_any test all || b)
-        (sym (or_same (test c) (list_any test cs) (list_any test ds)) ∙ ap (λ x. (test c || list_any test cs) || (test x || list_any test ds)) same)
-        ∙ m.cells test)
+      ap (λ b. list_any test all || b)
+      (sym (or_same (test c) (list_any test cs) (list_any test ds)) ∙ ap (λ x. (test c || list_any test cs) || (test x || list_any test ds)) same)
+      ∙ m.cells test)
 
   goes_on : (all : List RunCell) (e : RunCell) (low high low' high' : List RunCell) → TakesFirst low high (Some e) low' high' → Merging left right all low high
       → Merging left right (all ++ e ∷ []) low' high'
@@ -165,7 +165,7 @@ module _ (left right : List RunCell) where
   begins_so all low high l r a e f g =
       subst (λ (cs : List RunCell). Merging left right cs low high) (sym e)
       (subst (λ (cs : List RunCell). Merging left right [] cs high) (sym f)
-        (subst (λ (cs : List RunCell). Merging left right [] left cs) (sym g) (begins l r a)))
+      (subst (λ (cs : List RunCell). Merging left right [] left cs) (sym g) (begins l r a)))
 
   pub goes_so : (all all' : List RunCell) (e : RunCell) (low high low' high' : List RunCell) → all' ≡ all ++ e ∷ [] → TakesFirst low high (Some e) low' high' → Merging left right all low high
       → Merging left right all' low' high'

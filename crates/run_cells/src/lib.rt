@@ -1,7 +1,7 @@
-//! Lists of cells in the order of a run: which of them count, and what they show. Of a column (a row, a family and a qualifier) a
-//! run has the versions by timestamp and then by rank, of which the greater comes first (as HBase's KeyValues are sorted, Reference
-//! Guide, "KeyValue"; ranks are this project's own). A delete hides the puts at or below its timestamp, also those with a greater
-//! rank (Reference Guide, "Delete markers mask puts").
+//! Lists of cells in the order of a run: put together, cut to a range, compacted, and shown. Of a column (a row, a family and a
+//! qualifier) a run has the versions by timestamp and then by rank, of which the greater comes first (Reference Guide, "Sort Order";
+//! ranks are this project's own). A delete hides the puts at or below its timestamp, also those with a greater rank (Reference
+//! Guide, "Deletes mask Puts"; HBASE-2256).
 #![tactic(auto)]
 
 mod compaction;

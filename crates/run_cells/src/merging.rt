@@ -22,10 +22,7 @@ fn turn(left: &VecDeque<RunCell>, right: &VecDeque<RunCell>) -> Ordering
 }
 
 // Takes the first cell of both; of two at one place it drops the right one.
-fn take_first(
-    left: &mut VecDeque<RunCell>,
-    right: &mut VecDeque<RunCell>,
-) -> Option<RunCell>
+fn take_first(left: &mut VecDeque<RunCell>, right: &mut VecDeque<RunCell>) -> Option<RunCell>
     ensures { TakesFirst left.old.items right.old.items result left.new.items right.new.items }
 {
     match turn(left, right) {
