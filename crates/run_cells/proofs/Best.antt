@@ -1,7 +1,6 @@
 -- Each cell that is outdone is outdone by one that counts.
 use Rattle.std.proofs.Common.{◌≡◌, ℕ, Bool, true, false, cond, List, [], ◌∷◌, ◌++◌, filter, refl, ap, sym, ◌∙◌, arith}
-use Rattle.std.specs.Prelude.{◌==◌, ◌&&◌, ◌||◌, not, nat_le}
-use Rattle.std.specs.declared.cmp.Ordering.TheVariants.{Less}
+use Rattle.std.specs.Prelude.{◌&&◌, ◌||◌, not, nat_le}
 use Rattle.std.specs.List.{list_any}
 use Rattle.std.specs.Ordering.{is_lt}
 use Rattle.std.proofs.lemmas.List.Folds.{list_any-append}
@@ -9,7 +8,7 @@ use Rattle.rep_types.specs.declared.cell.CellKind.{CellKind}
 use Rattle.rep_types.specs.declared.cell.CellKind.TheVariants.{Put, Erase}
 use Rattle.store_file.specs.declared.cell.RunCell.{RunCell}
 use Rattle.store_file.specs.Order.{rank_order, age_order}
-use Rattle.run_cells.specs.Outdone.{is_at, outdone_as, outdone_by, is_outdone, counts_in, compacted, shown, view_of_put}
+use Rattle.run_cells.specs.Outdone.{is_at, outdone_as, outdone_by, is_outdone, counts_in, compacted}
 use Rattle.run_cells.proofs.Order.{age_total, lt-Less, at_trans, not-older, split-and, both-true, not_itself}
 
 stamps-trans : (a b c : ℕ) → nat_le a b ≡ true → nat_le b c ≡ true → nat_le a c ≡ true
@@ -90,11 +89,11 @@ best_of (d ∷ ds) c h =
                 first_best c d ds (outdone-trans c m.best d m.outdoes f)
                 (not_true (is_outdone ds d) (λ g. let t : is_outdone ds m.best ≡ true = any_more (outdone_by d) (outdone_by m.best) (λ x. outdone-trans m.best d x f) ds g in let f : is_outdone ds m.best ≡ false = m.counts in cc))
             | false ↦ λ f. record {
-                best = m.best;
-                outdoes = m.outdoes;
-                there = λ p t. second-true (p d) (list_any p ds) (m.there p t);
-                counts = neither (outdone_by m.best d) (is_outdone ds m.best) f m.counts;
-              }
+              best = m.best;
+              outdoes = m.outdoes;
+              there = λ p t. second-true (p d) (list_any p ds) (m.there p t);
+              counts = neither (outdone_by m.best d) (is_outdone ds m.best) f m.counts;
+            }
           ]) refl
       | false ↦ λ e.
           let f : outdone_by c d ≡ true = first-only (outdone_by c d) (is_outdone ds c) h e in
@@ -119,10 +118,10 @@ pub compacted_outdoes : (ds : List RunCell) (c : RunCell) → is_outdone (compac
 compacted_outdoes ds c =
     any_kept (outdone_by c) (counts_in ds) ds
     ∙ same_truth (list_any (λ d. counts_in ds d && outdone_by c d) ds) (is_outdone ds c)
-        (any_more (λ d. counts_in ds d && outdone_by c d) (outdone_by c) (λ d h. (split-and (counts_in ds d) (outdone_by c d) h).1) ds)
-        (λ h.
-            let m = best_of ds c h in
-            m.there (λ d. counts_in ds d && outdone_by c d) (both-true (counts_in ds m.best) (outdone_by c m.best) (ap not m.counts) m.outdoes))
+    (any_more (λ d. counts_in ds d && outdone_by c d) (outdone_by c) (λ d h. (split-and (counts_in ds d) (outdone_by c d) h).1) ds)
+    (λ h.
+    let m = best_of ds c h in
+    m.there (λ d. counts_in ds d && outdone_by c d) (both-true (counts_in ds m.best) (outdone_by c m.best) (ap not m.counts) m.outdoes))
 
 pub compacted_beside : (ds others : List RunCell) (c : RunCell) → is_outdone (compacted ds ++ others) c ≡ is_outdone (ds ++ others) c
 compacted_beside ds others c =

@@ -1,4 +1,6 @@
 mod Best
 mod Order
+mod Parts
 mod Passing
 mod Sorted
+mod Together

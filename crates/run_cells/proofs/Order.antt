@@ -1,5 +1,5 @@
 -- The order of cells, and what it says of a cell before or behind another.
-use Rattle.std.proofs.Common.{◌≡◌, ℕ, ◌≤◌, Bool, true, false, List, Ordering, refl, ap, sym, ◌∙◌, arith}
+use Rattle.std.proofs.Common.{◌≡◌, ℕ, Bool, true, false, List, Ordering, refl, ap, sym, ◌∙◌, arith}
 use Rattle.std.specs.Prelude.{◌==◌, ◌&&◌, nat_le}
 use Rattle.std.specs.declared.cmp.Ordering.TheVariants.{Less, Equal, Greater}
 use Rattle.std.specs.Cmp.{IsTotalOrder}
@@ -64,10 +64,10 @@ module _ {K : Type 0} {o : K → K → Ordering} (total : IsTotalOrder o) where
   between x y z low high h =
       (elim (o x y) as (λ (p : Ordering). o x y ≡ p → is_gt p ≡ false → is_eq (o y z) ≡ true) [
         | Less ↦ λ e l. (elim (o y z) as (λ (q : Ordering). o y z ≡ q → is_gt q ≡ false → is_eq q ≡ true) [
-            | Less ↦ λ f g. absurd (let bad : is_eq (o x z) ≡ false = ap is_eq (total.trans x y z e f) in cc)
-            | Equal ↦ λ f g. refl
-            | Greater ↦ λ f g. absurd (cc)
-          ]) refl high
+          | Less ↦ λ f g. absurd (let bad : is_eq (o x z) ≡ false = ap is_eq (total.trans x y z e f) in cc)
+          | Equal ↦ λ f g. refl
+          | Greater ↦ λ f g. absurd (cc)
+        ]) refl high
         | Equal ↦ λ e l. ap is_eq (sym (total.congr x y z e)) ∙ h
         | Greater ↦ λ e l. absurd (cc)
       ]) refl low
@@ -104,7 +104,7 @@ twin_between c d e low high h =
     let near : is_at c d ≡ true = below_between place_total c d e (first_le (place_order c d) (age_order c d) low) (first_le (place_order d e) (age_order d e) high) parts.0 in
     let far : is_at d e ≡ true = between place_total c d e (first_le (place_order c d) (age_order c d) low) (first_le (place_order d e) (age_order d e) high) parts.0 in
     both-true (is_at c d) (c.stamp == d.stamp) near
-        (stamp_between c.stamp d.stamp e.stamp (rank_order d.rank c.rank) (rank_order e.rank d.rank) (age_of d c low (at_sym d c ∙ near)) (age_of e d high (at_sym e d ∙ far)) parts.1)
+    (stamp_between c.stamp d.stamp e.stamp (rank_order d.rank c.rank) (rank_order e.rank d.rank) (age_of d c low (at_sym d c ∙ near)) (age_of e d high (at_sym e d ∙ far)) parts.1)
 
 pub not-older : (a b : ℕ) (o : Ordering) → ordering_then (nat_cmp a b) o ≡ Less → nat_le a b ≡ true
 not-older a b o h = grind arith

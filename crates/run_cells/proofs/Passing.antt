@@ -1,5 +1,5 @@
 -- One step of a pass over cells in order.
-use Rattle.std.proofs.Common.{◌≡◌, ℕ, ◌+◌, ◌-◌, ◌<◌, zero, suc, Bool, true, false, cond, List, [], ◌∷◌, ◌++◌, length, take, drop, get_or, filter, reverse, Some, None, refl, ap, sym, ◌∙◌, append-nil, length-drop, arith}
+use Rattle.std.proofs.Common.{◌≡◌, ℕ, ◌+◌, ◌-◌, ◌<◌, zero, suc, Bool, true, false, cond, List, [], ◌∷◌, ◌++◌, length, take, drop, get_or, filter, reverse, Some, refl, ap, sym, ◌∙◌, append-nil, length-drop, arith}
 use Rattle.std.specs.Prelude.{◌||◌, not, slice_get, find}
 use Rattle.std.specs.List.{list_any, take_while, filter_map}
 use Rattle.std.proofs.Math.Seq.{split_at, take_all}
@@ -10,7 +10,7 @@ use Rattle.rep_types.specs.declared.cell.CellView.{CellView}
 use Rattle.store_file.specs.declared.cell.RunCell.{RunCell}
 use Rattle.store_file.specs.Order.{are_in_order}
 use Rattle.store_file.specs.Run.{last_of}
-use Rattle.run_cells.specs.Outdone.{is_at, is_twin, is_delete, is_outdone, counts_in, view_of_put}
+use Rattle.run_cells.specs.Outdone.{is_twin, is_delete, is_outdone, counts_in, view_of_put}
 use Rattle.run_cells.specs.Steps.{has_place}
 use Rattle.run_cells.proofs.Sorted.{put_outdone, delete_outdone}
 
@@ -18,7 +18,6 @@ pub there : (cells : List RunCell) (at : ℕ) (d : RunCell) → at < length cell
 there [] at d h = absurd (omega arith)
 there (c ∷ cs) zero d h = refl
 there (c ∷ cs) (suc k) d h = there cs k d (omega arith)
-
 
 at_place : (cells : List RunCell) (at : ℕ) (c : RunCell) → at < length cells → c ≡ get_or cells at c → cells ≡ take at cells ++ c ∷ drop (at + 1) cells
 at_place cells at c h e =

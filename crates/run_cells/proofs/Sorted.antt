@@ -1,7 +1,7 @@
 -- Cells in order: what a pass over them sees of a cell before it and behind it.
-use Rattle.std.proofs.Common.{◌≡◌, ℕ, ◌-◌, zero, suc, Bool, true, false, cond, List, [], ◌∷◌, ◌++◌, length, reverse, Option, Some, None, refl, ap, sym, ◌∙◌, arith}
-use Rattle.std.specs.Prelude.{◌==◌, ◌&&◌, ◌||◌, slice_get, find}
-use Rattle.std.specs.declared.cmp.Ordering.TheVariants.{Less, Equal, Greater}
+use Rattle.std.proofs.Common.{◌≡◌, ℕ, ◌-◌, suc, Bool, true, false, cond, List, [], ◌∷◌, ◌++◌, length, reverse, Option, Some, None, refl, ap, sym, ◌∙◌, arith}
+use Rattle.std.specs.Prelude.{◌&&◌, ◌||◌, slice_get, find}
+use Rattle.std.specs.declared.cmp.Ordering.TheVariants.{Less}
 use Rattle.std.specs.List.{list_any, take_while}
 use Rattle.std.specs.Ordering.{is_lt}
 use Rattle.std.specs.Option.{option_or}
@@ -10,11 +10,11 @@ use Rattle.std.proofs.lemmas.List.Folds.{find-append, list_any-append}
 use Rattle.std.proofs.lemmas.List.Sums.{take_while-cons}
 use Rattle.rep_types.specs.declared.cell.CellKind.TheVariants.{Put, Erase}
 use Rattle.store_file.specs.declared.cell.RunCell.{RunCell}
-use Rattle.store_file.specs.Order.{place_order, age_order, run_order, is_behind, are_behind, are_in_order}
+use Rattle.store_file.specs.Order.{run_order, are_behind, are_in_order}
 use Rattle.store_file.specs.Run.{last_of}
 use Rattle.run_cells.specs.Outdone.{is_at, is_twin, is_delete, outdone_by, is_outdone}
 use Rattle.run_cells.specs.Steps.{has_place}
-use Rattle.run_cells.proofs.Order.{run_total, lt-Less, column_between, twin_between, by_kind, put_by_earlier, delete_by_earlier, put_by_later, delete_by_later, not_itself}
+use Rattle.run_cells.proofs.Order.{run_total, lt-Less, both-true, column_between, twin_between, by_kind, put_by_earlier, delete_by_earlier, put_by_later, delete_by_later, not_itself}
 
 -- each of these comes before the cell
 abbrev pub AllBefore : RunCell → List RunCell → Type 0
@@ -50,6 +50,14 @@ rises-behind b (c ∷ cs) h =
 pub rises : (cs : List RunCell) → are_in_order cs ≡ true → Rises cs
 rises [] h = tt
 rises (c ∷ cs) h = rises-behind c cs h
+
+ordered-behind : (b : RunCell) (cs : List RunCell) → AllBehind b cs → Rises cs → are_behind (Some b) cs ≡ true
+ordered-behind b [] h r = refl
+ordered-behind b (c ∷ cs) h r = both-true (is_lt (run_order b c)) (are_behind (Some c) cs) (ap is_lt h.0) (ordered-behind c cs r.0 r.1)
+
+pub ordered : (cs : List RunCell) → Rises cs → are_in_order cs ≡ true
+ordered [] r = refl
+ordered (c ∷ cs) r = ordered-behind c cs r.0 r.1
 
 pub record Around (before : List RunCell) (c : RunCell) (after : List RunCell) : Type 0 where
   pub earlier : AllBefore c before
@@ -119,9 +127,9 @@ found_there p c e d (f ∷ fs) h after before =
     (elim (last_such p fs) as (λ (o : Option RunCell). last_such p fs ≡ o → option_or o (cond (p f) (Some f) None) ≡ Some e → (run_order d e ≡ Less) × (run_order e c ≡ Less)) [
       | Some g ↦ λ k m. found_there p c e d fs (k ∙ m) after.1 before.1
       | None ↦ λ k m. (elim (p f) as (λ (b : Bool). cond b (Some f) None ≡ Some e → (run_order d e ≡ Less) × (run_order e c ≡ Less)) [
-          | true ↦ λ n. let same : f ≡ e = cc in (ap (run_order d) (sym same) ∙ after.0, ap (λ x. run_order x c) (sym same) ∙ before.0)
-          | false ↦ λ n. absurd (cc)
-        ]) m
+        | true ↦ λ n. let same : f ≡ e = cc in (ap (run_order d) (sym same) ∙ after.0, ap (λ x. run_order x c) (sym same) ∙ before.0)
+        | false ↦ λ n. absurd (cc)
+      ]) m
     ]) refl h
 
 not_there : (p : RunCell → Bool) (c : RunCell) (ds : List RunCell) → last_such p ds ≡ None → list_any (λ d. is_at c d && p d) ds ≡ false
@@ -131,9 +139,9 @@ not_there p c (d ∷ ds) h =
     (elim (last_such p ds) as (λ (o : Option RunCell). last_such p ds ≡ o → option_or o (cond (p d) (Some d) None) ≡ None → ((is_at c d && p d) || list_any (λ x. is_at c x && p x) ds) ≡ false) [
       | Some g ↦ λ k m. absurd (cc)
       | None ↦ λ k m. (elim (p d) as (λ (b : Bool). cond b (Some d) None ≡ None → ((is_at c d && b) || list_any (λ x. is_at c x && p x) ds) ≡ false) [
-          | true ↦ λ n. absurd (cc)
-          | false ↦ λ n. ap (λ b. b || list_any (λ x. is_at c x && p x) ds) (no (is_at c d)) ∙ not_there p c ds k
-        ]) m
+        | true ↦ λ n. absurd (cc)
+        | false ↦ λ n. ap (λ b. b || list_any (λ x. is_at c x && p x) ds) (no (is_at c d)) ∙ not_there p c ds k
+      ]) m
     ]) refl h
   where
     no : (a : Bool) → (a && false) ≡ false

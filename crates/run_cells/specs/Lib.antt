@@ -1,2 +1,3 @@
+pub mod Merged
 pub mod Outdone
 pub mod Steps

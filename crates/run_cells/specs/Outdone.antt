@@ -1,5 +1,5 @@
 -- Which cells of a table count, and what they show.
-use Rattle.std.specs.Prelude.{◌==◌, ◌&&◌, nat_le, not, Bool, true, false, List, [], ◌∷◌, filter, Option, Some, None}
+use Rattle.std.specs.Prelude.{◌==◌, ◌&&◌, nat_le, not, Bool, true, false, List, filter, Option, Some, None}
 use Rattle.std.specs.List.{filter_map, list_any}
 use Rattle.std.specs.Ordering.{is_lt, is_eq}
 use Rattle.rep_types.specs.declared.cell.CellKind.{CellKind}

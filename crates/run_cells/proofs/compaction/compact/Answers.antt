@@ -1,5 +1,5 @@
 use Rattle.std.proofs.Common.{◌≡◌, ◌+◌, [], ◌∷◌, ◌++◌, take, filter, Some, ap, sym, ◌∙◌}
-use Rattle.run_cells.specs.Outdone.{is_outdone, counts_in}
+use Rattle.run_cells.specs.Outdone.{counts_in}
 use Rattle.run_cells.proofs.Passing.{there, one_kept, none_kept}
 use Rattle.run_cells.proofs.compaction.compact.Goals as goal
 use Rattle.run_cells.proofs.compaction.compact.Goals.{then-not-is_outdone+in_ok-copy_of+in_ok-push, else-not-is_outdone}
