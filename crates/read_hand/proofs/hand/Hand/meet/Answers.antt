@@ -1,4 +1,4 @@
-use Rattle.std.proofs.Common.{ap, sym, ◌∙◌, rules}
+use Rattle.std.proofs.Common.{rules}
 use Rattle.read_hand.proofs.Carrying.{meets, leaves}
 use Rattle.read_hand.proofs.hand.Hand.meet.Goals as goal
 
