@@ -88,7 +88,7 @@ known-out q bs (o ∷ os) all = at (known-out q bs os (All-tail (IsOut bs) o os 
 
 -- ---- what changes
 
-pub sent-flights : (b : Batch) (f : FlightsValue) → IsFlights f → IsFlights (with_flight b f)
+sent-flights : (b : Batch) (f : FlightsValue) → IsFlights f → IsFlights (with_flight b f)
 sent-flights b f is = record {
   marks = length-append f.delivered (false ∷ []) ∙ (ap (λ n. n + 1) is.marks ∙ sym (length-append f.batches (numbered (next_flight f) b ∷ [])));
   known = All-push (IsOut (f.batches ++ numbered (next_flight f) b ∷ [])) f.outstanding (record { queue = queue_of b; flight = next_flight f })
@@ -96,8 +96,11 @@ sent-flights b f is = record {
       (ap (option_map queue_of) (flight-last f.batches (numbered (next_flight f) b)));
 }
 
-pub marked-flights : (n : ℕ) (f : FlightsValue) → IsFlights f → IsFlights (with_mark n f)
-marked-flights n f is = record { marks = length-set f.delivered (n - 1) true ∙ is.marks; known = is.known }
+-- the same of lists that are those
+pub sent-lists : (b : Batch) (f : FlightsValue) (bs : List Batch) (ds : List Bool) (os : List Outstanding) → IsFlights f → bs ≡ (with_flight b f).batches → ds ≡ (with_flight b f).delivered
+    → os ≡ (with_flight b f).outstanding → IsFlights (record { batches = bs; delivered = ds; outstanding = os })
+sent-lists b f bs ds os is e h g =
+    subst IsFlights (λ i. record { batches = sym e i; delivered = sym h i; outstanding = sym g i }) (sent-flights b f is)
 
 pub ended-flights : (q : QueueId) (f : FlightsValue) → IsFlights f → IsFlights (record f { outstanding = without q f.outstanding })
 ended-flights q f is = record { marks = is.marks; known = All-filter (λ (o : Outstanding). not (is_of q o)) (IsOut f.batches) f.outstanding is.known }
