@@ -1,17 +1,17 @@
 -- Flights that stay, and the outstanding ones.
-use Rattle.std.proofs.Common.{◌≡◌, ℕ, ◌+◌, ◌-◌, ◌≤◌, ◌==◌, ◌&&◌, zero, suc, not, Bool, true, false, cond, List, [], ◌∷◌, ◌++◌, length, All, Option, Some, None, IfSome, slice_get, find, filter, refl, ap, sym, ◌∙◌, subst, arith}
+use Rattle.std.proofs.Common.{◌≡◌, ℕ, ◌+◌, ◌-◌, ◌≤◌, ◌==◌, ◌&&◌, zero, suc, not, Bool, true, false, cond, List, [], ◌∷◌, ◌++◌, length, All, Option, Some, None, IfSome, slice_get, find, refl, ap, sym, ◌∙◌, subst, arith}
 use Rattle.std.specs.Option.{option_map}
-use Rattle.std.specs.Prelude.{nat_le, slice_set}
+use Rattle.std.specs.Prelude.{nat_le}
 use Rattle.std.proofs.lemmas.Bool.{true≢false, and_parts, and_from, eqb-true, eq-eqb, le-leb}
-use Rattle.std.proofs.lemmas.Option.{none-some, same_Some}
-use Rattle.std.proofs.lemmas.List.{length-append, length-set}
+use Rattle.std.proofs.lemmas.Option.{none-some}
+use Rattle.std.proofs.lemmas.List.{length-append}
 use Rattle.std.proofs.lemmas.List.Elements.{All-weaker, All-push, All-head, All-tail, All-filter}
 use Rattle.rep_types.specs.declared.ids.Cluster.{Cluster}
 use Rattle.rep_types.specs.declared.ids.Cluster.TheVariants.{A, B, C}
 use Rattle.wire_batch.specs.declared.batch.Batch.{Batch}
 use Rattle.shipper.specs.declared.queue.Outstanding.{Outstanding}
 use Rattle.shipper.specs.declared.queue.QueueId.{QueueId}
-use Rattle.shipper.specs.Flights.{FlightsValue, next_flight, numbered, with_flight, with_mark, flight_of, queue_at, ended_of, ended, IsOut, IsFlights}
+use Rattle.shipper.specs.Flights.{FlightsValue, next_flight, numbered, with_flight, flight_of, queue_at, ended_of, ended, IsOut, IsFlights}
 use Rattle.shipper.specs.Queues.{same_cluster, same_queue, queue_of, is_of, outstanding_of, without}
 
 -- ---- queues
