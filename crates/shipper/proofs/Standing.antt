@@ -1,17 +1,17 @@
 -- Flights that stay, and the outstanding ones.
-use Rattle.std.proofs.Common.{◌≡◌, ℕ, ◌+◌, ◌-◌, ◌≤◌, ◌==◌, ◌&&◌, zero, suc, not, Bool, true, false, cond, List, [], ◌∷◌, ◌++◌, length, All, Option, Some, None, IfSome, slice_get, find, filter, refl, ap, sym, ◌∙◌, subst, arith}
+use Rattle.std.proofs.Common.{◌≡◌, ℕ, ◌+◌, ◌-◌, ◌≤◌, ◌==◌, ◌&&◌, zero, suc, not, Bool, true, false, cond, List, [], ◌∷◌, ◌++◌, length, All, Option, Some, None, IfSome, slice_get, find, refl, ap, sym, ◌∙◌, subst, arith}
 use Rattle.std.specs.Option.{option_map}
-use Rattle.std.specs.Prelude.{nat_le, slice_set}
+use Rattle.std.specs.Prelude.{nat_le}
 use Rattle.std.proofs.lemmas.Bool.{true≢false, and_parts, and_from, eqb-true, eq-eqb, le-leb}
-use Rattle.std.proofs.lemmas.Option.{none-some, same_Some}
-use Rattle.std.proofs.lemmas.List.{length-append, length-set}
+use Rattle.std.proofs.lemmas.Option.{none-some}
+use Rattle.std.proofs.lemmas.List.{length-append}
 use Rattle.std.proofs.lemmas.List.Elements.{All-weaker, All-push, All-head, All-tail, All-filter}
 use Rattle.rep_types.specs.declared.ids.Cluster.{Cluster}
 use Rattle.rep_types.specs.declared.ids.Cluster.TheVariants.{A, B, C}
 use Rattle.wire_batch.specs.declared.batch.Batch.{Batch}
 use Rattle.shipper.specs.declared.queue.Outstanding.{Outstanding}
 use Rattle.shipper.specs.declared.queue.QueueId.{QueueId}
-use Rattle.shipper.specs.Flights.{FlightsValue, next_flight, numbered, with_flight, with_mark, flight_of, queue_at, ended_of, ended, IsOut, IsFlights}
+use Rattle.shipper.specs.Flights.{FlightsValue, next_flight, numbered, with_flight, flight_of, queue_at, ended_of, ended, IsOut, IsFlights}
 use Rattle.shipper.specs.Queues.{same_cluster, same_queue, queue_of, is_of, outstanding_of, without}
 
 -- ---- queues
@@ -88,7 +88,7 @@ known-out q bs (o ∷ os) all = at (known-out q bs os (All-tail (IsOut bs) o os 
 
 -- ---- what changes
 
-pub sent-flights : (b : Batch) (f : FlightsValue) → IsFlights f → IsFlights (with_flight b f)
+sent-flights : (b : Batch) (f : FlightsValue) → IsFlights f → IsFlights (with_flight b f)
 sent-flights b f is = record {
   marks = length-append f.delivered (false ∷ []) ∙ (ap (λ n. n + 1) is.marks ∙ sym (length-append f.batches (numbered (next_flight f) b ∷ [])));
   known = All-push (IsOut (f.batches ++ numbered (next_flight f) b ∷ [])) f.outstanding (record { queue = queue_of b; flight = next_flight f })
@@ -96,8 +96,11 @@ sent-flights b f is = record {
       (ap (option_map queue_of) (flight-last f.batches (numbered (next_flight f) b)));
 }
 
-pub marked-flights : (n : ℕ) (f : FlightsValue) → IsFlights f → IsFlights (with_mark n f)
-marked-flights n f is = record { marks = length-set f.delivered (n - 1) true ∙ is.marks; known = is.known }
+-- the same of lists that are those
+pub sent-lists : (b : Batch) (f : FlightsValue) (bs : List Batch) (ds : List Bool) (os : List Outstanding) → IsFlights f → bs ≡ (with_flight b f).batches → ds ≡ (with_flight b f).delivered
+    → os ≡ (with_flight b f).outstanding → IsFlights (record { batches = bs; delivered = ds; outstanding = os })
+sent-lists b f bs ds os is e h g =
+    subst IsFlights (λ i. record { batches = sym e i; delivered = sym h i; outstanding = sym g i }) (sent-flights b f is)
 
 pub ended-flights : (q : QueueId) (f : FlightsValue) → IsFlights f → IsFlights (record f { outstanding = without q f.outstanding })
 ended-flights q f is = record { marks = is.marks; known = All-filter (λ (o : Outstanding). not (is_of q o)) (IsOut f.batches) f.outstanding is.known }
