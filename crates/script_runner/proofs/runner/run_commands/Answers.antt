@@ -6,3 +6,9 @@ returns-in-Ok-clause-ok g c = λ e. rw c.into_stores-stores.ensures.value (perfo
 
 pub returns-in-Ok-clause-part : goal.returns-in-Ok-clause-part
 returns-in-Ok-clause-part g c = λ e. rw c.into_stores-stores.ensures.value (performed g.V.Vault.contents g.V.Vault.tally g.met.V.Vault.bounded _ _ _ _ _ _ c.into_stores-stores.ensures.legal c.into_stores-stores.ensures.stored c.into_stores-stores.ensures.covers_a c.into_stores-stores.ensures.covers_b c.into_stores-stores.ensures.told_a c.into_stores-stores.ensures.told_b (c.perform_and_write-status.ensures.part e))
+
+pub perform_and_write-status-requires-clause-planned_a : goal.perform_and_write-status-requires-clause-planned_a
+perform_and_write-status-requires-clause-planned_a g c = λ k. rw c.in-Ok.ensures (c.requires.a_is_new.tally.planned k)
+
+pub perform_and_write-status-requires-clause-planned_b : goal.perform_and_write-status-requires-clause-planned_b
+perform_and_write-status-requires-clause-planned_b g c = λ k. rw c.in-Ok.ensures (c.requires.b_is_new.tally.planned k)
