@@ -1,13 +1,13 @@
 -- The queues of a cluster with the places of their records, and the last pushed ids of its peers.
-use Rattle.std.specs.Prelude.{ℕ, ◌-◌, ◌≡◌, ◌==◌, ◌&&◌, not, Bool, List, find, filter, slice_get, Option}
+use Rattle.std.specs.Prelude.{ℕ, ◌-◌, ◌≡◌, ◌==◌, ◌&&◌, Bool, List, find, slice_get, Option}
 use Rattle.rep_types.specs.declared.state.Place.{Place}
 use Rattle.rep_types.specs.declared.state.QueueForms.{QueueForms}
-use Rattle.rep_model.specs.Keyed.{given}
+use Rattle.rep_types.specs.declared.state.QueueForm.TheVariants.{Grouped}
 use Rattle.rep_model.specs.FormEvents.{made_form}
+use Rattle.rep_model.specs.Keyed.{given}
 use Rattle.last_ids.specs.Ids.{last_of}
 use Rattle.last_ids.specs.declared.ids.LastId.{LastId}
 use Rattle.queue_storage.specs.declared.record.QueueRecord.{QueueRecord}
-use Rattle.queue_storage.specs.declared.record.NewQueue.{NewQueue}
 
 -- the queues in the order in which they were made, the last pushed ids of each peer by region, and the form of those to be made
 pub record Storage : Type 0 where
@@ -21,12 +21,6 @@ is_queue p s q = (q.peer == p) && (q.server == s)
 abbrev pub queue_at : ℕ → ℕ → List QueueRecord → Option QueueRecord
 queue_at p s queues = find (is_queue p s) queues
 
-abbrev pub is_of_peer : ℕ → QueueRecord → Bool
-is_of_peer p q = q.peer == p
-
-abbrev pub is_of_server : ℕ → QueueRecord → Bool
-is_of_server s q = q.server == s
-
 -- the last pushed id of a peer's region, 0 where there is none
 abbrev pub last_pushed : ℕ → ℕ → List (List LastId) → ℕ
 last_pushed p r ids = given (slice_get ids (p - 1)) 0 (last_of r)
@@ -34,19 +28,16 @@ last_pushed p r ids = given (slice_get ids (p - 1)) 0 (last_of r)
 abbrev pub placed : Place → QueueRecord → QueueRecord
 placed place q = record q { place = place }
 
-abbrev pub owned : ℕ → QueueRecord → QueueRecord
-owned by q = record q { owner = by }
-
-abbrev pub logged : ℕ → QueueRecord → QueueRecord
-logged log q = record q { log = log }
+-- its record is grouped
+abbrev pub grouped : QueueRecord → QueueRecord
+grouped q = record q { form = Grouped }
 
 -- a queue owned by its server, of which nothing is recorded
-abbrev pub new_queue : QueueForms → ℕ → NewQueue → QueueRecord
-new_queue forms p n = record { peer = p; server = n.server; owner = n.server; form = made_form forms; start = n.start; place = n.start; log = n.start.log }
+abbrev pub new_queue : QueueForms → ℕ → ℕ → Place → QueueRecord
+new_queue forms p s start = record { peer = p; server = s; owner = s; form = made_form forms; start = start; place = start; log = start.log }
 
--- those that aren't of the peer
-abbrev pub without_peer : ℕ → List QueueRecord → List QueueRecord
-without_peer p queues = filter (λ q. not (is_of_peer p q)) queues
+abbrev pub owned : ℕ → QueueRecord → QueueRecord
+owned by q = record q { owner = by }
 
 -- the ids of each peer stay
 abbrev pub IdsStay : List (List LastId) → List (List LastId) → Type 0

@@ -39,19 +39,14 @@ words Grouped owner start place log =
 abbrev pub queue_text : QueueRecord → List ℕ
 queue_text q = words q.form q.owner q.start q.place q.log
 
--- the record of a queue, of a last pushed id, and of the forms of a cluster's records, which new ones alone have none of
+-- the record of a queue, and of a last pushed id
 abbrev pub queue_change : QueueRecord → Change
 queue_change q = record { key = queue_key q.peer q.server; value = Some (queue_text q) }
-
-abbrev pub no_queue : QueueRecord → Change
-no_queue q = record { key = queue_key q.peer q.server; value = None }
 
 abbrev pub last_change : ℕ → LastId → Change
 last_change p x = record { key = last_key p x.region; value = Some (decimal x.seq) }
 
-abbrev pub no_last : ℕ → LastId → Change
-no_last p x = record { key = last_key p x.region; value = None }
-
+-- the record of the forms of a cluster's queue records; where all are grouped from the beginning there is none
 abbrev pub forms_change : QueueForms → Change
 forms_change forms.Old = record { key = codes "forms"; value = Some (codes "old") }
 forms_change forms.Mixed = record { key = codes "forms"; value = Some (codes "mixed") }

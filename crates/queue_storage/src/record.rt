@@ -2,7 +2,7 @@
 ghost use Rattle.std.specs.Prelude.{◌≡◌, ◌++◌, OnOk, IfOk};
 ghost use Rattle.std.specs.Fmt.{decimal};
 ghost use Rattle.rep_types.specs.declared.state.QueueForm.TheVariants.{Listed, Grouped};
-ghost use Rattle.queue_storage.specs.Texts.{logs_text, place_text, words, queue_text, queue_key, last_key, queue_change, no_queue, last_change, no_last, forms_change};
+ghost use Rattle.queue_storage.specs.Texts.{logs_text, place_text, words, queue_text, queue_key, last_key, queue_change, last_change, forms_change};
 
 use last_ids::LastId;
 use rep_types::{Items, Memory, PeerId, Place, QueueForm, QueueForms, ServerId, Text};
@@ -22,13 +22,6 @@ pub struct QueueRecord {
     pub start: Place,
     pub place: Place,
     pub log: u32,
-}
-
-/// A queue to be made for the logs of a server, from this place on, which is in its greatest log.
-#[derive(Clone, Copy)]
-pub struct NewQueue {
-    pub server: ServerId,
-    pub start: Place,
 }
 
 fn write_logs(out: &mut Vec<u8>, first: u32, last: u32) -> io::Result<()>
@@ -115,16 +108,6 @@ pub fn queue_change(alloc: Global, queue: &QueueRecord) -> Result<Change, Memory
     })
 }
 
-/// The record of a queue goes.
-pub fn no_queue(alloc: Global, queue: &QueueRecord) -> Result<Change, Memory>
-    ensures { IfOk result (λ change. change ≡ no_queue queue.now) }
-{
-    Ok(Change {
-        key: queue_key(alloc, queue)?,
-        value: None,
-    })
-}
-
 /// The record of a peer's last pushed id.
 pub fn last_change(alloc: Global, peer: PeerId, last: &LastId) -> Result<Change, Memory>
     ensures { IfOk result (λ change. change ≡ last_change peer last.now) }
@@ -141,17 +124,7 @@ pub fn last_change(alloc: Global, peer: PeerId, last: &LastId) -> Result<Change,
     })
 }
 
-/// The record of a peer's last pushed id goes.
-pub fn no_last(alloc: Global, peer: PeerId, last: &LastId) -> Result<Change, Memory>
-    ensures { IfOk result (λ change. change ≡ no_last peer last.now) }
-{
-    Ok(Change {
-        key: last_key(alloc, peer, last)?,
-        value: None,
-    })
-}
-
-/// The record of the forms that a cluster's queue records have.
+/// The record of the forms that a cluster's queue records have; none where all are grouped from the beginning.
 pub fn forms_change(alloc: Global, forms: QueueForms) -> Result<Change, Memory>
     ensures { IfOk result (λ change. change ≡ forms_change forms) }
 {

@@ -87,7 +87,8 @@ impl QueueStore {
         })
     }
 
-    fn queue(&self, peer: PeerId, server: ServerId) -> Option<&QueueRecord>
+    /// The record of a queue. None exactly where there is no such queue.
+    pub fn queue(&self, peer: PeerId, server: ServerId) -> Option<&QueueRecord>
         ensures { option_copied result ≡ queue_at peer server self.now.queues }
     {
         self.queues
