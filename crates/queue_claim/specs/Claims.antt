@@ -2,8 +2,8 @@
 use Rattle.std.specs.Prelude.{ℕ, ◌≡◌, ◌==◌, not, Bool, List, Option, Some, None, Result, Err, IsOk, if◌then◌else◌}
 use Rattle.std.specs.List.{list_any}
 use Rattle.queue_storage.specs.declared.record.QueueRecord.{QueueRecord}
-use Rattle.queue_claim.specs.declared.claim.ClaimError.{ClaimError}
-use Rattle.queue_claim.specs.declared.claim.ClaimError.TheVariants.{NoQueue, Dead, Owned}
+use Rattle.queue_claim.specs.declared.claiming.ClaimError.{ClaimError}
+use Rattle.queue_claim.specs.declared.claiming.ClaimError.TheVariants.{NoQueue, Dead, Owned}
 
 abbrev pub is_live : List ℕ → ℕ → Bool
 is_live live s = list_any (λ n. n == s) live

@@ -1,6 +1,6 @@
 //! Claims of queues: a live server takes over the queue of a dead one (HBase's ClaimReplicationQueuesProcedure, HBASE-26029).
 #![tactic(auto)]
 
-mod claim;
+mod claiming;
 
-pub use claim::{ClaimError, claim, may_claim};
+pub use claiming::{ClaimError, claim, may_claim};

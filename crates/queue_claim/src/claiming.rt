@@ -6,7 +6,7 @@ ghost use Rattle.wal_roll.specs.Blamed.{IsFault};
 ghost use Rattle.rep_model.specs.Keyed.{replace};
 ghost use Rattle.queue_storage.specs.Queues.{is_queue, queue_at, owned, IsSame};
 ghost use Rattle.queue_storage.specs.Texts.{queue_change};
-ghost use Rattle.queue_claim.specs.declared.claim.ClaimError.TheVariants.{StoreFault};
+ghost use Rattle.queue_claim.specs.declared.claiming.ClaimError.TheVariants.{StoreFault};
 ghost use Rattle.queue_claim.specs.Claims.{is_live, refusal, Answers};
 
 use queue_storage::{QueueError, QueueStore};
@@ -15,7 +15,7 @@ use rep_vault::Vault;
 use thiserror::Error;
 
 /// Why a queue wasn't claimed; the first that holds, in this order.
-#[derive(Clone, Copy, Error)]
+#[derive(Clone, Copy, Debug, Error)]
 pub enum ClaimError {
     #[error("there is no such queue")]
     NoQueue,
