@@ -1,0 +1,4 @@
+mod Found
+mod Knowing
+mod Logs
+mod Peers
