@@ -1,6 +1,6 @@
 mod Adding
-mod Columns
-mod Order
+pub mod Columns
+pub mod Order
 mod Rows
 mod Searching
-mod Showing
+pub mod Showing

@@ -1,0 +1,6 @@
+mod Column
+mod First
+mod Latest
+mod Listed
+mod Own
+mod Shown
