@@ -15,7 +15,7 @@ use Rattle.run_cells.specs.Outdone.{is_outdone, shown}
 use Rattle.run_cells.proofs.Order.{split-and}
 use Rattle.run_cells.proofs.Sorted.{rises}
 use Rattle.cell_laws.proofs.Listed.{is_shown_of}
-use Rattle.table_cells.proofs.Showing.{is_eq-then}
+use Rattle.cell_laws.proofs.Columns.{is_eq-then}
 use Rattle.cell_laws.specs.Ranked.{edit_of, NeverFalls}
 use Rattle.cell_laws.proofs.Own.{column, hides, put_at, own-fold, hidden-fold, no_put}
 use Rattle.cell_laws.proofs.Latest.{is_it, rivals, stamped, settles}

@@ -17,7 +17,7 @@ use Rattle.store_file.specs.Order.{run_order, age_order}
 use Rattle.run_cells.specs.Outdone.{is_at, is_delete_kind, outdone_as, outdone_by, is_outdone, counts_in, view_of_put}
 use Rattle.run_cells.proofs.Order.{age_total, age_of, by_kind, put_by_earlier, split-and}
 use Rattle.run_cells.proofs.Sorted.{AllBehind, Rises}
-use Rattle.table_cells.proofs.Order.{total}
+use Rattle.cell_laws.proofs.Columns.{total}
 use Rattle.cell_laws.proofs.Listed.{is_shown_of}
 use Rattle.cell_laws.proofs.Own.{column, at, put_at, hides}
 use Rattle.cell_laws.proofs.Latest.{has_value, is_same, is_beaten, is_it, rivals}

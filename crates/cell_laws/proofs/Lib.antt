@@ -1,3 +1,4 @@
+mod Columns
 mod Column
 mod First
 mod Latest

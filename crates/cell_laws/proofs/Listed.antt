@@ -9,9 +9,9 @@ use Rattle.rep_types.specs.declared.cell.CellView.{CellView}
 use Rattle.rep_model.specs.See.{column_order}
 use Rattle.rep_model.specs.declared.views.Column.{Column}
 use Rattle.run_cells.proofs.Order.{eq-Equal}
-use Rattle.table_cells.specs.Entries.{IsBelow, IsRising}
-use Rattle.table_cells.proofs.Order.{total}
-use Rattle.table_cells.proofs.Columns.{stands}
+use Rattle.cell_laws.proofs.Columns.{IsBelow, IsRising}
+use Rattle.cell_laws.proofs.Columns.{total}
+use Rattle.cell_laws.proofs.Columns.{stands}
 
 abbrev pub view_column : CellView → Column
 view_column v = record { row = v.row; family = v.family; qualifier = v.qualifier }

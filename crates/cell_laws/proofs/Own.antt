@@ -13,7 +13,7 @@ use Rattle.rep_model.specs.See.{Stamped, column_order, is_of, cells_of, add_dele
 use Rattle.rep_model.specs.declared.views.Column.{Column}
 use Rattle.store_file.specs.declared.cell.RunCell.{RunCell}
 use Rattle.run_cells.specs.Outdone.{is_delete, is_delete_kind}
-use Rattle.table_cells.proofs.Showing.{is_eq-then, and-swap}
+use Rattle.cell_laws.proofs.Columns.{is_eq-then, and-swap}
 use Rattle.cell_laws.specs.Ranked.{cell_of, edit_of}
 
 abbrev pub column : RunCell → Column

@@ -16,9 +16,9 @@ use Rattle.store_file.specs.Order.{place_order, age_order, run_order, are_in_ord
 use Rattle.run_cells.specs.Outdone.{outdone_by, is_outdone, counts_in, view_of_put, shown}
 use Rattle.run_cells.proofs.Order.{at_sym, by_kind, put_by_earlier}
 use Rattle.run_cells.proofs.Sorted.{AllBehind, Rises, rises}
-use Rattle.table_cells.specs.Entries.{IsRising}
-use Rattle.table_cells.proofs.Order.{total, rising-add}
-use Rattle.table_cells.proofs.Columns.{stands, stands-add}
+use Rattle.cell_laws.proofs.Columns.{IsRising}
+use Rattle.cell_laws.proofs.Columns.{total, rising-add}
+use Rattle.cell_laws.proofs.Columns.{stands, stands-add}
 use Rattle.cell_laws.specs.Ranked.{edit_of, NeverFalls}
 use Rattle.cell_laws.proofs.Own.{column}
 use Rattle.cell_laws.proofs.First.{put_view}

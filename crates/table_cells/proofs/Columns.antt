@@ -58,7 +58,7 @@ join-blank : (n : Entry) → joined (blank (column n)) n ≡ n
 join-blank n = λ i. record { row = n.row; family = n.family; qualifier = n.qualifier; delete = join-no_delete n.delete i; put = join-no_put n.put i }
 
 -- the column is among these
-abbrev pub stands : Column → List Column → Bool
+abbrev stands : Column → List Column → Bool
 stands c cs = list_any (λ d. is_eq (column_order c d)) cs
 
 below-absent : (c : Column) (cs : List Column) → IsBelow c cs → stands c cs ≡ false
@@ -75,7 +75,7 @@ or-swap true false s = refl
 or-swap false true s = refl
 or-swap false false s = refl
 
-pub stands-add : (c n : Column) (cs : List Column) → stands c (add_column n cs) ≡ (is_eq (column_order c n) || stands c cs)
+stands-add : (c n : Column) (cs : List Column) → stands c (add_column n cs) ≡ (is_eq (column_order c n) || stands c cs)
 stands-add c n [] = refl
 stands-add c n (d ∷ ds) =
     (elim (column_order n d) as (λ (o : Ordering). column_order n d ≡ o → stands c (match_ordering o (n ∷ d ∷ ds) (d ∷ ds) (d ∷ add_column n ds)) ≡ (is_eq (column_order c n) || (is_eq (column_order c d) || stands c ds))) [

@@ -1,6 +1,6 @@
 mod Adding
-pub mod Columns
-pub mod Order
+mod Columns
+mod Order
 mod Rows
 mod Searching
-pub mod Showing
+mod Showing

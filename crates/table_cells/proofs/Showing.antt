@@ -22,12 +22,12 @@ use Rattle.table_cells.specs.declared.entry.Latest.{Latest}
 use Rattle.table_cells.specs.Entries.{delete_of, put_of, entry_of, join_deletes, join_puts, joined, kept, stamped, shown_of}
 use Rattle.table_cells.proofs.Columns.{is_at, own, blank, at_column, column-fold, add_columns, add_all-columns}
 
-pub is_eq-then : (o p : Ordering) → is_eq (ordering_then o p) ≡ (is_eq o && is_eq p)
+is_eq-then : (o p : Ordering) → is_eq (ordering_then o p) ≡ (is_eq o && is_eq p)
 is_eq-then Less p = refl
 is_eq-then Equal p = refl
 is_eq-then Greater p = refl
 
-pub and-swap : (a b : Bool) → (a && b) ≡ (b && a)
+and-swap : (a b : Bool) → (a && b) ≡ (b && a)
 and-swap true true = refl
 and-swap true false = refl
 and-swap false true = refl
