@@ -1,6 +1,6 @@
 mod Best
-mod Order
+pub mod Order
 mod Parts
 mod Passing
-mod Sorted
+pub mod Sorted
 mod Together

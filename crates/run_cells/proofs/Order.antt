@@ -16,7 +16,7 @@ pub place_total : IsTotalOrder place_order
 place_total = then_total (on_total (λ (c : RunCell). c.row) nat_list_cmp_total)
     (then_total (on_total (λ (c : RunCell). c.family) nat_list_cmp_total) (on_total (λ (c : RunCell). c.qualifier) nat_list_cmp_total))
 
-rank_total : IsTotalOrder rank_order
+pub rank_total : IsTotalOrder rank_order
 rank_total = then_total (on_total (λ (r : Rank). r.generation) nat_cmp_total)
     (then_total (on_total (λ (r : Rank). r.seq) nat_cmp_total) (on_total (λ (r : Rank). r.replay) nat_cmp_total))
 
@@ -73,7 +73,7 @@ module _ {K : Type 0} {o : K → K → Ordering} (total : IsTotalOrder o) where
       ]) refl low
 
 -- age among cells of one column
-age_of : (c d : RunCell) → run_order d c ≡ Less → is_at c d ≡ true → age_order d c ≡ Less
+pub age_of : (c d : RunCell) → run_order d c ≡ Less → is_at c d ≡ true → age_order d c ≡ Less
 age_of c d h t = second_Less (place_order d c) (age_order d c) h (sym (at_sym c d) ∙ t)
 
 -- of three cells in order, where the first and the last are of one column, so is the one between
