@@ -1,0 +1,4 @@
+pub mod Batches
+pub mod Forming
+pub mod Heads
+pub mod Newly

@@ -1,0 +1,9 @@
+use Rattle.std.proofs.Common.{◌≡◌, ◌==◌, ◌&&◌, ◌++◌, drop, take, length}
+use Rattle.rep_model.specs.Tickets.{tell_waiting}
+use Rattle.rep_model.specs.declared.machine.Told.TheVariants as told
+use Rattle.plain_parts.proofs.waiting.end_log.Given as goal
+
+abbrev pub invariant-loop-at : goal.invariant-loop-at
+invariant-loop-at l =
+    (take l.at l.tickets ++ tell_waiting l.cluster (λ s k. (s == l.server) && (k == l.log)) (λ x. told.Synchronous x) (drop l.at l.tickets) ≡ tell_waiting l.cluster (λ s k. (s == l.server) && (k == l.log)) (λ x. told.Synchronous x) l.initial.tickets)
+    × (length l.tickets ≡ length l.initial.tickets)
