@@ -1,0 +1,76 @@
+use last_ids::LastId;
+use queue_claim::{ClaimError, may_claim};
+use queue_storage::QueueStore;
+use rep_types::{Bytes, PeerId, Place, QueueForms, RegionId, ServerId, ServerSet};
+use rep_vault::{MemVault, Vault};
+use std::alloc::Global;
+use std::test::Fail;
+
+fn has_record(alloc: Global, vault: &mut MemVault, key: &str, text: &[u8]) -> Result<bool, Fail> {
+    let mut out = Bytes::new(alloc);
+    Ok(vault.get(key, &mut out)? && out.as_slice() == text)
+}
+
+// A queue of an old cluster, which starts behind an opening of 32 bytes, and of which a put of 56 bytes is recorded: the record
+// lists its log, until the queue is migrated.
+fn keeps_records(alloc: Global) -> Result<bool, Fail> {
+    let mut vault = MemVault::new(alloc)?;
+    let mut store = QueueStore::new(alloc)?;
+    let (Some(peer), Some(server), Some(region)) = (
+        PeerId::new(1),
+        ServerId::new(1),
+        RegionId::new(1),
+    ) else {
+        return Ok(false);
+    };
+    let start = Place { log: 1, offset: 32 };
+    let place = Place { log: 1, offset: 88 };
+    let old = store.set_forms(&mut vault, QueueForms::Old).is_ok();
+    let queue = store.new_queue(peer, server, start);
+    let added = store.add(&mut vault, &[queue], Vec::new(alloc)).is_ok();
+    let ids = [LastId { region, seq: 2 }];
+    let placed = store
+        .set_place(&mut vault, peer, server, place, &ids)
+        .is_ok();
+    let listed = has_record(alloc, &mut vault, "queue/1/1", b"1 1 32 88 1")?;
+    let mixed = store.set_forms(&mut vault, QueueForms::Mixed).is_ok();
+    let migrated = store.migrate(&mut vault, peer, server).is_ok();
+    let grouped = has_record(alloc, &mut vault, "queue/1/1", b"group 1 1 32 1 88")?;
+    let last = has_record(alloc, &mut vault, "last/1/1", b"2")?;
+    let forms = has_record(alloc, &mut vault, "forms", b"mixed")?;
+    Ok(old && added && placed && listed && mixed && migrated && grouped && last && forms)
+}
+
+// A queue is claimed by a live server alone, and only while its owner is dead.
+fn claims(alloc: Global) -> Result<bool, Fail> {
+    let mut vault = MemVault::new(alloc)?;
+    let mut store = QueueStore::new(alloc)?;
+    let (Some(peer), Some(one), Some(two)) = (PeerId::new(1), ServerId::new(1), ServerId::new(2))
+    else {
+        return Ok(false);
+    };
+    let start = Place { log: 1, offset: 0 };
+    let queue = store.new_queue(peer, one, start);
+    let added = store.add(&mut vault, &[queue], Vec::new(alloc)).is_ok();
+    let mut live = ServerSet::new(alloc);
+    let dead = matches!(
+        may_claim(&store, peer, two, one, &live),
+        Err(ClaimError::Dead { .. })
+    );
+    live.push(two)?;
+    let free = may_claim(&store, peer, two, one, &live).is_ok();
+    live.push(one)?;
+    let owned = matches!(
+        may_claim(&store, peer, two, one, &live),
+        Err(ClaimError::Owned { .. })
+    );
+    Ok(added && dead && free && owned)
+}
+
+#[test]
+fn queue_records(rt: HostRuntime) -> Result<(), Fail> {
+    let alloc = rt.alloc();
+    assert!(rt; keeps_records(alloc)?);
+    assert!(rt; claims(alloc)?);
+    Ok(())
+}
