@@ -1,6 +1,6 @@
-mod Best
-mod Order
-mod Parts
+pub mod Best
+pub mod Order
+pub mod Parts
 mod Passing
-mod Sorted
+pub mod Sorted
 mod Together
