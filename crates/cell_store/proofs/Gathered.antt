@@ -84,7 +84,7 @@ module _ (wanted : List ℕ → Bool) (c : Contents) (memory : List RunCell) (ru
   next-holds : (i : ℕ) (d : NamedRun) (part : List RunCell) (x : RunCell) → i < length runs → part ≡ of_rows wanted (named_cells c (get_or runs i d)) → Among part x → Holds (any_cell c (store runs)) x
   next-holds i d part x l e a = λ test t.
       let told : list_any (kept_by test) (named_cells c (get_or runs i d)) ≡ true
-          = sym (any_kept test (λ y. wanted y.row) (named_cells c (get_or runs i d))) ∙ ap (list_any test) (sym e) ∙ a test t in
+      = sym (any_kept test (λ y. wanted y.row) (named_cells c (get_or runs i d))) ∙ ap (list_any test) (sym e) ∙ a test t in
       second-true (list_any test memory) (any_named c runs test)
       (list_any_at (λ r. list_any test (named_cells c r)) runs i d l (any_more (kept_by test) test (weaker test) (named_cells c (get_or runs i d)) told))
 

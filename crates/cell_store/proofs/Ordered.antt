@@ -26,17 +26,20 @@ ended_so total earlier (b ∷ bytes) all h = absurd (cc)
 ordered_on : (total more : ℕ) (earlier : List RunCell) (bytes : List ℕ) (all : List RunCell) → are_in_order earlier ≡ true → cells total more earlier bytes ≡ Run all → are_in_order all ≡ true
 unfolding cells
 ordered_on total zero earlier bytes all order h = ap are_in_order (sym (ended_so total earlier bytes all h)) ∙ order
-ordered_on total (suc more) earlier bytes all order h = one (fields bytes) h
+ordered_on total (suc more) earlier bytes all order h = one (fields bytes) (λ c rest o g. ordered_on total more (earlier ++ c ∷ []) rest all o g) h
   where
     tested : (c : RunCell) (rest : List ℕ) (allowed behind : Bool) → is_behind (last_of earlier) c ≡ behind
+        → (are_in_order (earlier ++ c ∷ []) ≡ true → cells total more (earlier ++ c ∷ []) rest ≡ Run all → are_in_order all ≡ true)
         → (if allowed then (if behind then cells total more (earlier ++ c ∷ []) rest else Broken (total - length bytes) 3) else Broken (total - length bytes) 2) ≡ Run all
         → are_in_order all ≡ true
-    tested c rest false behind e g = absurd (cc)
-    tested c rest true false e g = absurd (cc)
-    tested c rest true true e g = ordered_on total more (earlier ++ c ∷ []) rest all (in_order-push earlier c order e) g
-    one : (o : Option (Read FieldsValue)) → judged total earlier bytes o (λ c rest. cells total more (earlier ++ c ∷ []) rest) ≡ Run all → are_in_order all ≡ true
-    one None g = absurd (cc)
-    one (Some r) g = tested (cell_of r.value) r.rest (is_allowed r.value) (is_behind (last_of earlier) (cell_of r.value)) refl g
+    tested c rest false behind e go g = absurd (cc)
+    tested c rest true false e go g = absurd (cc)
+    tested c rest true true e go g = go (in_order-push earlier c order e) g
+
+    one : (o : Option (Read FieldsValue)) → ((c : RunCell) (rest : List ℕ) → are_in_order (earlier ++ c ∷ []) ≡ true → cells total more (earlier ++ c ∷ []) rest ≡ Run all → are_in_order all ≡ true)
+        → judged total earlier bytes o (λ c rest. cells total more (earlier ++ c ∷ []) rest) ≡ Run all → are_in_order all ≡ true
+    one None go g = absurd (cc)
+    one (Some r) go g = tested (cell_of r.value) r.rest (is_allowed r.value) (is_behind (last_of earlier) (cell_of r.value)) refl (go (cell_of r.value) r.rest) g
 
 pub run-in_order : (bytes : List ℕ) (all : List RunCell) → verdict bytes ≡ Run all → are_in_order all ≡ true
 unfolding verdict

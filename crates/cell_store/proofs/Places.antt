@@ -166,7 +166,7 @@ pub goes_on : (old news cells rest' : List RunCell) (n : RunCell) (rest cells' :
     → Placing old news cells' rest'
 goes_on old news cells rest' n rest cells' apart taken made m =
     let told : (test : RunCell → Bool) → (list_any test cells || (test n || list_any test rest')) ≡ any_both old news test
-        = λ test. ap (λ ds. list_any test cells || list_any test ds) (sym taken) ∙ m.sum test in
+    = λ test. ap (λ ds. list_any test cells || list_any test ds) (sym taken) ∙ m.sum test in
     let is_new : Holds (any_both old news) n = λ test t. sym (told test) ∙ or-second (list_any test cells) _ (or-first (test n) (list_any test rest') t) in
     let agree : AgreesWith n cells = agrees n cells (λ d a q. apart n d is_new (λ test t. sym (told test) ∙ or-first (list_any test cells) _ (a test t)) q) in
     record {
