@@ -1,5 +1,5 @@
 -- Cells of memory and of runs, put together run by run.
-use Rattle.std.proofs.Common.{◌≡◌, ℕ, ◌+◌, ◌≤◌, ◌<◌, zero, suc, Bool, true, false, List, [], ◌∷◌, Some, length, get_or, take, filter, refl, ap, sym, ◌∙◌, subst, arith}
+use Rattle.std.proofs.Common.{◌≡◌, ℕ, ◌+◌, ◌≤◌, ◌<◌, zero, suc, Bool, true, false, List, [], ◌∷◌, Some, length, get_or, take, refl, ap, sym, ◌∙◌}
 use Rattle.std.specs.Prelude.{◌||◌, ◌&&◌}
 use Rattle.std.specs.List.{list_any}
 use Rattle.std.specs.declared.cmp.Ordering.TheVariants.{Equal}
@@ -9,9 +9,8 @@ use Rattle.rep_vault.specs.Contents.{Contents}
 use Rattle.rep_vault.specs.Tallies.{Tally}
 use Rattle.store_file.specs.declared.cell.RunCell.{RunCell}
 use Rattle.store_file.specs.Order.{run_order, are_in_order}
-use Rattle.store_file.specs.Run.{Run, verdict}
 use Rattle.store_file.specs.Stored.{run, IsRunOf}
-use Rattle.run_cells.specs.Merged.{Agree, IsMerged, is_within}
+use Rattle.run_cells.specs.Merged.{Agree, IsMerged}
 use Rattle.run_cells.proofs.Best.{any_more, any_kept, second-true}
 use Rattle.run_cells.proofs.Order.{split-and}
 use Rattle.run_cells.proofs.Parts.{part-in_order}

@@ -1,10 +1,10 @@
 -- The cells of a run are in order.
-use Rattle.std.proofs.Common.{◌≡◌, ℕ, ◌-◌, zero, suc, Bool, true, false, cond, List, [], ◌∷◌, ◌++◌, length, drop, Option, Some, None, refl, ap, sym, ◌∙◌}
+use Rattle.std.proofs.Common.{◌≡◌, ℕ, ◌-◌, zero, suc, Bool, true, false, List, [], ◌∷◌, ◌++◌, length, drop, Option, Some, None, refl, ap, sym, ◌∙◌}
 use Rattle.std.specs.Prelude.{◌&&◌, nat_lt, if◌then◌else◌}
 use Rattle.store_file.specs.declared.cell.RunCell.{RunCell}
 use Rattle.store_file.specs.Fields.{Read, FieldsValue, fields, is_allowed, cell_of}
 use Rattle.store_file.specs.Order.{is_behind, are_behind, are_in_order}
-use Rattle.store_file.specs.Run.{Verdict, Run, Broken, last_of, judged, ended, cells, verdict}
+use Rattle.store_file.specs.Run.{Run, Broken, last_of, judged, ended, cells, verdict}
 use Rattle.run_cells.proofs.Order.{split-and, both-true}
 use Rattle.run_cells.proofs.Sorted.{last-more}
 use Rattle.cell_store.specs.Cells.{cells_told}

@@ -1,5 +1,5 @@
 -- What the steps say.
-use Rattle.std.specs.Prelude.{ℕ, ◌≡◌, Bool, true, List, [], ◌∷◌, filter}
+use Rattle.std.specs.Prelude.{ℕ, Bool, List, [], ◌∷◌, filter}
 use Rattle.std.specs.Ordering.{match_ordering}
 use Rattle.store_file.specs.declared.cell.RunCell.{RunCell}
 use Rattle.store_file.specs.Order.{run_order}

@@ -1,4 +1,4 @@
-use Rattle.std.proofs.Common.{◌≡◌, ◌<◌, ◌≤◌, refl, ap, sym, ◌∙◌, subst, length, get_or, arith}
+use Rattle.std.proofs.Common.{◌≡◌, refl, ap, sym, ◌∙◌, subst, get_or, arith}
 use Rattle.rep_vault.specs.Contents.{Contents}
 use Rattle.cell_store.specs.declared.named.NamedRun.{NamedRun}
 use Rattle.cell_store.specs.Cells.{named_cells, IsThere}

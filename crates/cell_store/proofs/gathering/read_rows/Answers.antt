@@ -1,10 +1,8 @@
-use Rattle.std.proofs.Common.{ap, sym, ◌∙◌}
+use Rattle.std.proofs.Common.{ap, ◌∙◌}
 use Rattle.store_file.specs.declared.cell.RunCell.{RunCell}
 use Rattle.store_file.specs.Order.{are_in_order}
 use Rattle.run_cells.specs.Merged.{is_within}
 use Rattle.run_cells.proofs.Parts.{part-in_order}
-use Rattle.cell_store.specs.Steps.{of_rows}
-use Rattle.cell_store.proofs.Gathered.{file_is}
 use Rattle.cell_store.proofs.Ordered.{run-in_order}
 use Rattle.cell_store.proofs.gathering.read_rows.Goals as goal
 
