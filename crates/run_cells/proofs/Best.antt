@@ -39,7 +39,7 @@ first-true : (a b : Bool) → a ≡ true → (a || b) ≡ true
 first-true true b h = refl
 first-true false b h = absurd (cc)
 
-second-true : (a b : Bool) → b ≡ true → (a || b) ≡ true
+pub second-true : (a b : Bool) → b ≡ true → (a || b) ≡ true
 second-true true b h = refl
 second-true false b h = h
 
@@ -55,7 +55,7 @@ not_true : (b : Bool) → (b ≡ true → ⊥) → b ≡ false
 not_true true f = absurd (f refl)
 not_true false f = refl
 
-any_more : (p q : RunCell → Bool) → ((d : RunCell) → p d ≡ true → q d ≡ true) → (ds : List RunCell) → list_any p ds ≡ true → list_any q ds ≡ true
+pub any_more : {X : Type 0} (p q : X → Bool) → ((d : X) → p d ≡ true → q d ≡ true) → (ds : List X) → list_any p ds ≡ true → list_any q ds ≡ true
 any_more p q f [] h = absurd (cc)
 any_more p q f (d ∷ ds) h =
     (elim (p d) as (λ (b : Bool). p d ≡ b → (b || list_any p ds) ≡ true → (q d || list_any q ds) ≡ true) [
@@ -100,7 +100,7 @@ best_of (d ∷ ds) c h =
           first_best c d ds f (not_true (is_outdone ds d) (λ g. let t : is_outdone ds c ≡ true = any_more (outdone_by d) (outdone_by c) (λ x. outdone-trans c d x f) ds g in cc))
     ]) refl
 
-any_kept : (p q : RunCell → Bool) (ds : List RunCell) → list_any p (filter q ds) ≡ list_any (λ d. q d && p d) ds
+pub any_kept : (p q : RunCell → Bool) (ds : List RunCell) → list_any p (filter q ds) ≡ list_any (λ d. q d && p d) ds
 any_kept p q [] = refl
 any_kept p q (d ∷ ds) =
     elim (q d) as (λ (b : Bool). list_any p (cond b (d ∷ filter q ds) (filter q ds)) ≡ ((b && p d) || list_any (λ x. q x && p x) ds)) [

@@ -1,6 +1,6 @@
-mod Best
+pub mod Best
 pub mod Order
-mod Parts
+pub mod Parts
 mod Passing
 pub mod Sorted
 mod Together

@@ -86,7 +86,7 @@ or-false : (a : Bool) → (a || false) ≡ a
 or-false true = refl
 or-false false = refl
 
-last-more : (d e : RunCell) (es : List RunCell) → last_of (d ∷ e ∷ es) ≡ last_of (e ∷ es)
+pub last-more : (d e : RunCell) (es : List RunCell) → last_of (d ∷ e ∷ es) ≡ last_of (e ∷ es)
 last-more d e es =
     let n : length (d ∷ e ∷ es) - 1 ≡ suc (length (e ∷ es) - 1) = omega arith in
     ap (λ k. slice_get (d ∷ e ∷ es) k) n

@@ -7,7 +7,8 @@ use rep_types::{Duplicate, Memory};
 use std::alloc::Global;
 use store_file::{RunCell, RunCells};
 
-fn copy_of(alloc: Global, cell: &RunCell) -> Result<RunCell, Memory>
+/// The same cell once more.
+pub fn copy_of(alloc: Global, cell: &RunCell) -> Result<RunCell, Memory>
     ensures { IfOk result (λ copy. copy ≡ cell.now) }
 {
     Ok(RunCell {

@@ -11,7 +11,7 @@ mod merging;
 mod outdone;
 mod views;
 
-pub use compaction::compact;
+pub use compaction::{compact, copy_of};
 pub use cutting::cut;
 pub use laws::{compaction_outdoes_the_same, compaction_shows_the_same, parts_are_in_order};
 pub use merging::merge;

@@ -1,0 +1,4 @@
+mod Flushed
+mod Gathered
+mod Ordered
+mod Places
