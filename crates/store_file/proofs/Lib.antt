@@ -1,3 +1,4 @@
 pub mod Back
+mod Held
 pub mod Judged
 pub mod Written
