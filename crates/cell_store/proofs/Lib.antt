@@ -2,7 +2,6 @@ mod Alike
 mod Compacted
 mod Flushed
 mod Gathered
-mod Ordered
 mod Places
 mod Rewritten
 mod Survived

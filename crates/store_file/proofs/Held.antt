@@ -186,7 +186,7 @@ cell_held f may fit =
     by_kind true = fit.value
     by_kind false = tt
 
-ended_so : (total : ℕ) (earlier : List RunCell) (bytes : List ℕ) (all : List RunCell) → ended total earlier bytes ≡ Run all → earlier ≡ all
+pub ended_so : (total : ℕ) (earlier : List RunCell) (bytes : List ℕ) (all : List RunCell) → ended total earlier bytes ≡ Run all → earlier ≡ all
 ended_so total earlier [] all h = cc
 ended_so total earlier (b ∷ bytes) all h = absurd (cc)
 

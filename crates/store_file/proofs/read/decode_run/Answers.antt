@@ -5,6 +5,7 @@ use Rattle.std.proofs.lemmas.Result.{err_from_is_err_and}
 use Rattle.store_file.specs.Run.{verdict}
 use Rattle.store_file.proofs.Held.{typed_so, short_so}
 use Rattle.store_file.proofs.Judged.{too_short, begins_so, goes_so, stops_so, ends_so, ends_here, goes_on}
+use Rattle.store_file.proofs.Ordered.{order_so}
 use Rattle.store_file.proofs.read.decode_run.Goals as goal
 
 pub returns-then-bytes-lt8-clause-does : goal.returns-then-bytes-lt8-clause-does
@@ -36,6 +37,9 @@ returns-else-is_empty-clause-does c =
     let some : 0 < length c.loop.rest.now = omega (arith, eqb-false (length c.loop.rest.now) 0 (sym c.is_empty.ensures ∙ c.if-is_empty.false)) in
     ends_so (length c.args.bytes.now) c.read_u64-count.result c.loop.counter c.loop.earlier c.loop.rest.now (verdict c.args.bytes.now) c.loop-test.false c.loop.invariant.1
     ∙ goes_on (length c.args.bytes.now) c.loop.earlier c.loop.rest.now some
+
+pub returns-then-is_empty-clause-order : goal.returns-then-is_empty-clause-order
+returns-then-is_empty-clause-order c = order_so (Ok c.loop.earlier) c.args.bytes.now (returns-then-is_empty-clause-does c)
 
 pub returns-then-is_empty-clause-typed : goal.returns-then-is_empty-clause-typed
 returns-then-is_empty-clause-typed c = typed_so (Ok c.loop.earlier) c.args.bytes.now (λ i. omega (arith, c.type_inv.bytes i)) (returns-then-is_empty-clause-does c)
