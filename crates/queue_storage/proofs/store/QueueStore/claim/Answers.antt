@@ -1,46 +1,30 @@
-use Rattle.std.proofs.Common.{◌≡◌, OnOk, IfSome, Bool, List, ◌∷◌, [], position, find, Some, None, get_or, ap, sym, ◌∙◌, refl, subst}
-use Rattle.rep_vault.specs.Contents.{with_records}
-use Rattle.rep_model.specs.Keyed.{replace}
-use Rattle.rep_model.proofs.Replacing.{find-absent}
+use Rattle.std.proofs.Common.{◌≡◌, ◌∷◌, ◌++◌, [], List, map, ap, sym, ◌∙◌, subst}
+use Rattle.std.specs.Prelude.{slice_set}
+use Rattle.rep_vault.specs.declared.store.Change.{Change}
+use Rattle.rep_vault.specs.Contents.{Contents, with_records}
 use Rattle.queue_storage.specs.declared.record.QueueRecord.{QueueRecord}
-use Rattle.queue_storage.specs.Queues.{Storage, is_queue, queue_at, owned}
+use Rattle.queue_storage.specs.declared.turns.Turn.TheVariants.{Owned}
+use Rattle.queue_storage.specs.Ids.{counting}
+use Rattle.queue_storage.specs.Queues.{Storage, queue_at, turned}
+use Rattle.queue_storage.specs.Recorded.{Recorded}
 use Rattle.queue_storage.specs.Texts.{queue_change}
-use Rattle.queue_storage.proofs.Found.{indexed, on_found, matched, unmatched, replaced}
+use Rattle.queue_storage.proofs.Found.{becomes, on_both}
+use Rattle.queue_storage.proofs.Keeping.{queue_turned}
+use Rattle.queue_storage.proofs.Lookups.{IsAt, queue_found}
 use Rattle.queue_storage.proofs.store.QueueStore.claim.Goals as goal
 
-pub returns-in_default-clause-none : goal.returns-in_default-clause-none
-returns-in_default-clause-none g c =
-    unmatched (queue_at c.args.peer c.args.server c.args.self.now.queues) _ _
-    (subst (λ (s : Storage). queue_at c.args.peer c.args.server s.queues ≡ None) c.self.view_is (find-absent (is_queue c.args.peer c.args.server) c.self.inside.queues (sym c.in_default.ensures))) refl
-
-pub returns-clause-queues : goal.returns-clause-queues
-returns-clause-queues g c =
-    let test : QueueRecord → Bool = is_queue c.args.peer c.args.server in
-    let x : QueueRecord = c.index-as_slice-at.result in
-    let queues : List QueueRecord = c.args.self.now.queues in
-    let first : position test c.self.inside.queues ≡ Some c.in-Some.at = sym c.in-Some.ensures in
-    let there : position test queues ≡ Some c.in-Some.at = subst (λ (s : Storage). position test s.queues ≡ Some c.in-Some.at) c.self.view_is first in
-    let found : find test queues ≡ Some x =
-    subst (λ (s : Storage). find test s.queues ≡ Some x) c.self.view_is
-    (indexed test c.self.inside.queues c.in-Some.at x first (subst (λ (xs : List QueueRecord). x ≡ get_or xs c.in-Some.at x) c.as_slice.ensures c.index-as_slice-at.is)) in
-    on_found c.record_at.result (find test queues) x _ (λ q. c.record_at.new.self.queues ≡ replace test (owned c.args.by q) queues) found
-    (replaced test queues c.record_at.new.self.queues c.in-Some.at c.owned-next.result (owned c.args.by x) there c.owned-next.ensures) c.record_at.ensures.queues
-
-pub returns-clause-records : goal.returns-clause-records
-returns-clause-records g c =
-    let test : QueueRecord → Bool = is_queue c.args.peer c.args.server in
-    let x : QueueRecord = c.index-as_slice-at.result in
-    let there : position test c.self.inside.queues ≡ Some c.in-Some.at = sym c.in-Some.ensures in
-    let found : find test c.self.inside.queues ≡ Some x = indexed test c.self.inside.queues c.in-Some.at x there (subst (λ (xs : List QueueRecord). x ≡ get_or xs c.in-Some.at x) c.as_slice.ensures c.index-as_slice-at.is) in
-    let now : QueueRecord → Type 0 = λ q. g.V.Vault.contents c.record_at.new.vault ≡ with_records (queue_change (owned c.args.by q) ∷ []) (g.V.Vault.contents c.args.vault.now) in
-    subst (λ (s : Storage). OnOk c.record_at.result (IfSome (find test s.queues) now)) c.self.view_is
-    (on_found c.record_at.result (find test c.self.inside.queues) x _ now found
-    (λ e. e ∙ ap (λ (q : QueueRecord). with_records (queue_change q ∷ []) (g.V.Vault.contents c.args.vault.now)) c.owned-next.ensures) c.record_at.ensures.records)
-
-pub returns-clause-none : goal.returns-clause-none
-returns-clause-none g c =
-    let test : QueueRecord → Bool = is_queue c.args.peer c.args.server in
-    let x : QueueRecord = c.index-as_slice-at.result in
-    let there : position test c.self.inside.queues ≡ Some c.in-Some.at = sym c.in-Some.ensures in
-    let found : find test c.self.inside.queues ≡ Some x = indexed test c.self.inside.queues c.in-Some.at x there (subst (λ (xs : List QueueRecord). x ≡ get_or xs c.in-Some.at x) c.as_slice.ensures c.index-as_slice-at.is) in
-    matched (queue_at c.args.peer c.args.server c.args.self.now.queues) x _ _ (subst (λ (s : Storage). find test s.queues ≡ Some x) c.self.view_is found) c.record_at.ensures.found
+pub returns-clause-recorded : goal.returns-clause-recorded
+returns-clause-recorded g c =
+    let before : Contents = g.V.Vault.contents c.args.vault.now in
+    let old : Storage = record { queues = c.self.inside.queues; ids = map counting c.self.inside.ids; forms = c.self.inside.forms } in
+    let p = c.args.peer in
+    let s = c.args.server in
+    let next : QueueRecord = c.in-Some.next.queue in
+    let b = becomes (queue_at p s old.queues) (turned (Owned c.args.by)) next c.in-Some.ensures.queue in
+    let there = queue_found p s old.queues b.item b.found in
+    let at : IsAt p s (turned (Owned c.args.by) b.item) = record { peer = there.peer; server = there.server } in
+    on_both c.put_turned.result (g.V.Vault.contents c.put_turned.new.vault ≡ with_records c.deref.result.now before) (c.put_turned.new.queues ≡ slice_set old.queues c.in-Some.next.at next) _
+    c.put_turned.ensures.records c.put_turned.ensures.queues (λ put queues h.
+    subst (λ (d : Contents). Recorded d (record old { queues = c.put_turned.new.queues })) (sym (put ∙ ap (λ (xs : List Change). with_records xs before) (c.deref.ensures.value ∙ (c.in_ok-changes.ensures ∙ ap (λ (xs : List Change). xs ++ queue_change next ∷ []) c.new.ensures.items))))
+    (subst (λ (qs : List QueueRecord). Recorded (with_records (queue_change next ∷ []) before) (record old { queues = qs })) (sym (queues ∙ c.in-Some.ensures.place))
+    (queue_turned before old p s b.item next b.found (subst (IsAt p s) b.now at) (subst (Recorded before) (sym c.self.view_is) h))))
