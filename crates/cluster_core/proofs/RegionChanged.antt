@@ -6,6 +6,7 @@ use Rattle.std.proofs.lemmas.Option.{same_Some, none-some}
 use Rattle.rep_types.specs.declared.ids.Cluster.{Cluster}
 use Rattle.rep_types.specs.declared.state.PlaceOf.{PlaceOf}
 use Rattle.rep_vault.specs.Contents.{Contents}
+use Rattle.queue_storage.specs.Recorded.{Recorded}
 use Rattle.wal_roll.specs.Log.{wal}
 use Rattle.region_meta.specs.Regions as meta
 use Rattle.region_meta.specs.Changes as change
@@ -24,7 +25,7 @@ use Rattle.cluster_core.specs.Orderly.{AreNumbered}
 use Rattle.cluster_core.specs.Stands.{RecordsStand, Stands}
 use Rattle.cluster_core.proofs.Lookups.{region_of_map, trace_found}
 use Rattle.cluster_core.proofs.Places.{place_found}
-use Rattle.cluster_core.proofs.Staying.{servers_kept, lines_kept}
+use Rattle.cluster_core.proofs.Staying.{is_same_server, servers_kept, queues_beside}
 use Rattle.cluster_core.proofs.Tracing.{number_at}
 
 -- ---- lists
@@ -129,17 +130,17 @@ module _ (side : Side) (h new : Hosted) (there : find (is_region h.region.number
 
   -- it is at this place then; files stay, and the records are those that the new side owes
   pub changed_stands : (own : Cluster) (c c' : Contents) (core : ClusterCore) → Stands own c core side → (p : PlaceOf) → map_region new ≡ change.moved p (map_region h) → change.next_place h.place p ≡ p
-      → c'.files ≡ c.files → c'.stands wal ≡ true → (index : Index) → IndexStands index (with_hosted h.region.number new side) → RecordsStand c' (with_hosted h.region.number new side)
+      → c'.files ≡ c.files → c'.stands wal ≡ true → (index : Index) → IndexStands index (with_hosted h.region.number new side) → Recorded c' core.queues → RecordsStand c' (with_hosted h.region.number new side)
       → Stands own c' (record core { map = change.placed h.region.number p core.map; index = index }) (with_hosted h.region.number new side)
-  changed_stands own c c' core stands p made next files folder index stand records = record {
+  changed_stands own c c' core stands p made next files folder index stand recorded records = record {
     own_is = stands.own_is;
     folder = folder;
     regions = ap (change.placed r p) stands.regions ∙ map_is p made next;
     index = stand;
     servers = servers_kept c c' side after core.stations files refl refl stands.servers;
-    queues = record { peers = stands.queues.peers; plain = stands.queues.plain; queues = stands.queues.queues; at = lines_kept side after core.lines refl (λ _ _ e. e) stands.queues.at };
+    queues = queues_beside core (record core { map = change.placed h.region.number p core.map; index = index }) side after refl refl refl refl refl refl (is_same_server side.servers) stands.queues;
+    recorded = recorded;
     records = records;
     framed = stands.framed;
-    forms = stands.forms;
     link = stands.link;
   }

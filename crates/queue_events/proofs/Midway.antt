@@ -76,6 +76,7 @@ turned_orderly side next C ws o grown placed dead fits = record {
   fits = fits;
   sealed_dead = All_replaced (λ (v : Server). v.sealed ≡ true → v.live ≡ false) (is_server next.number) next side.servers dead o.sealed_dead;
   starts = All_weaker (λ (p : Peer) h. upto p.start (length side.commits) (length C) h grown.longer) side.peers o.starts;
+  serial_starts = All_weaker (λ (p : Peer) h. upto p.serial_start (length side.commits) (length C) h grown.longer) side.peers o.serial_starts;
   recorded = All_weaker (λ (p : Peer) h. All_weaker (λ (x : Commit) g. upto x.seq (commit_count x.region.number side.commits) (commit_count x.region.number C) g (grown.counted x.region.number)) p.recorded h) side.peers o.recorded;
 }
 
