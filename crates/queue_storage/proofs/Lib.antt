@@ -1,4 +1,6 @@
-mod Found
-mod Knowing
+pub mod Decimals
+pub mod Keeping
+pub mod Keys
 mod Logs
-mod Peers
+pub mod Lookups
+pub mod Puts
