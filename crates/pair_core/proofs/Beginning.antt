@@ -1,5 +1,5 @@
 -- Nothing in memory and a store as new stand for the opening.
-use Rattle.std.proofs.Common.{◌≡◌, ◌≤◌, inl, false, [], length, refl, sym, subst, arith}
+use Rattle.std.proofs.Common.{ℕ, suc, ◌≡◌, ◌≤◌, inl, false, [], length, refl, ap, sym, subst, arith}
 use Rattle.rep_types.specs.declared.ids.Cluster.{Cluster}
 use Rattle.rep_types.specs.declared.ids.Cluster.TheVariants.{A, B}
 use Rattle.rep_vault.specs.Contents.{Contents, new_contents}
@@ -7,8 +7,11 @@ use Rattle.rep_vault.specs.Tallies.{Tally}
 use Rattle.rep_model.specs.State.{empty_side}
 use Rattle.rep_model.specs.Runs.{Counts}
 use Rattle.rep_model.specs.declared.machine.Machine.{Machine}
-use Rattle.cluster_core.specs.Texts.{RecordKey, OfTable, OfRegion, OfBarriers, OfServer, OfPeer}
-use Rattle.cluster_core.specs.Stands.{Stands, RecordAt, empty_core}
+use Rattle.cluster_core.specs.Texts.{RecordKey, OfTable, OfRegion, OfBarriers, OfServer, OfPeer, OfQueue, OfLast, OfForms}
+use Rattle.cluster_core.specs.Stands.{Stands, RecordAt, no_queues, empty_core}
+use Rattle.queue_storage.specs.Ids.{last_pushed}
+use Rattle.queue_storage.specs.Recorded.{Recorded}
+use Rattle.queue_storage.specs.Texts.{last_text}
 use Rattle.pair_core.specs.Sides.{AllStand, Covers, empty_sides}
 use Rattle.pair_core.specs.Pair.{IsPair, both}
 use Rattle.pair_core.proofs.Runs.{legal-new, state-new, faults-new}
@@ -20,6 +23,21 @@ none_told (OfRegion r) = refl
 none_told (OfBarriers r) = refl
 none_told (OfServer s) = refl
 none_told (OfPeer p) = refl
+none_told (OfQueue p s) = tt
+none_told (OfLast p r) = tt
+none_told OfForms = tt
+
+-- no peer has a last pushed id
+none_pushed : (p r : ℕ) → last_pushed p r no_queues.ids ≡ 0
+none_pushed 0 r = refl
+none_pushed 1 r = refl
+none_pushed 2 r = refl
+none_pushed 3 r = refl
+none_pushed 4 r = refl
+none_pushed (suc (suc (suc (suc (suc p))))) r = refl
+
+none_recorded : Recorded new_contents no_queues
+none_recorded = record { queues = λ p q small small'. refl; ids = λ p r small small'. sym (ap last_text (none_pushed p r)); forms = refl; apart = tt }
 
 stands_new : (own : Cluster) → Stands own new_contents (empty_core own) empty_side
 stands_new own = record {
@@ -28,10 +46,10 @@ stands_new own = record {
   regions = refl;
   index = record { traces = refl; shelves = refl; cells = refl };
   servers = λ s l. inl refl;
-  queues = record { peers = refl; plain = tt; queues = refl; at = tt };
+  queues = record { peers = refl; plain = tt; queues = refl; at = tt; last = none_pushed; forms = refl };
+  recorded = none_recorded;
   records = record { at = λ k small. none_told k; only = λ q some. absurd (some refl) };
   framed = tt;
-  forms = refl;
   link = refl;
 }
 

@@ -153,9 +153,18 @@ served_is_paired (event.Crash c s) flights w fs = w
 served_is_paired (event.Seal c s) flights w fs = w
 served_is_paired (event.Recover c r) flights w fs = w
 served_is_paired (event.Peer c p k ts) flights w fs = (and_parts _ _ w).0
+served_is_paired (event.Enable c p) flights w fs = w
+served_is_paired (event.Disable c p) flights w fs = w
+served_is_paired (event.Remove c p) flights w fs = w
 served_is_paired (event.Send c p s n) flights w fs = (and_parts _ _ w).0
 served_is_paired (event.Deliver f) flights w fs = other_is_paired (source_of f flights) (fs f)
+served_is_paired (event.Lose f) flights w fs = fs f
 served_is_paired (event.Confirm f) flights w fs = fs f
+served_is_paired (event.Claim c by s p) flights w fs = w
+served_is_paired (event.OldQueues c) flights w fs = w
+served_is_paired (event.MigrateBegin c) flights w fs = w
+served_is_paired (event.Migrate c p s) flights w fs = w
+served_is_paired (event.MigrateEnd c) flights w fs = w
 served_is_paired _ flights w fs = refl
 
 either : (c : Cluster) → is_paired c ≡ true → is_b c ≡ false → c ≡ A

@@ -1,12 +1,21 @@
 -- Where memory and a store stand for a state, the store holds what it is to hold.
-use Rattle.std.proofs.Common.{ℕ, ◌≡◌, Bool, true, false, List, map, find, Option, Some, None, sym, subst}
+use Rattle.std.proofs.Common.{ℕ, ◌≡◌, ◌==◌, inl, inr, Bool, true, false, cond, List, [], ◌∷◌, map, find, Option, Some, None, refl, ap, sym, ◌∙◌, subst, eqb-true, eq-eqb}
+use Rattle.std.specs.List.{AllByRecursion}
+use Rattle.std.specs.Option.{option_map}
+use Rattle.std.proofs.lemmas.Bool.{and_parts, and_from, cond-true, cond-false}
+use Rattle.std.proofs.lemmas.Option.{none-some}
 use Rattle.rep_types.specs.declared.ids.Cluster.TheVariants.{A, B}
 use Rattle.rep_types.specs.declared.record.Record.{Record}
 use Rattle.rep_vault.specs.Tallies.{Tally}
 use Rattle.rep_model.specs.Runs.{step_of, state_of, faults_of}
 use Rattle.rep_model.specs.State.{Pair, is_server}
 use Rattle.rep_model.specs.Words.{is_paired}
+use Rattle.queue_storage.specs.declared.record.QueueRecord.{QueueRecord}
+use Rattle.queue_storage.specs.Queues.{Storage, is_queue as is_record, queue_at, AreApart}
+use Rattle.queue_storage.specs.Recorded.{Recorded}
+use Rattle.queue_storage.specs.Texts.{queue_text, last_text, forms_text}
 use Rattle.rep_laws.specs.Settled.{IsSettled}
+use Rattle.rep_laws.proofs.Lists.{In, all_in, All_both, All_mapped}
 use Rattle.rep_laws.proofs.Settling.{settled_state}
 use Rattle.pair_core.specs.Pair.{PairValue, IsPair, both}
 use Rattle.rep_types.specs.declared.ids.Cluster.{Cluster}
@@ -19,7 +28,9 @@ use Rattle.cluster_core.specs.declared.parts.Station.{Station}
 use Rattle.cluster_core.specs.Stands.{Stands, StationAt, is_station}
 use Rattle.pair_core.specs.declared.sides.Sides.{Sides}
 use Rattle.pair_core.specs.Sides.{Both, AllStand, Covers}
-use Rattle.pair_core.specs.Stored.{LogsAt, Holds, Stored}
+use Rattle.cluster_core.specs.Queues.{queue_of, IsAt, QueuesStand}
+use Rattle.cluster_core.proofs.QueueLookups.{queue_found}
+use Rattle.pair_core.specs.Stored.{LogsAt, QueueTold, QueuesHeld, Holds, Stored}
 use Rattle.pair_core.specs.Told.{CountsTold}
 
 logs_at : (c : Contents) (side : Side) (s : ℕ) (st : Option Station) (srv : Option Server) → StationAt c side s st srv → LogsAt c side s srv
@@ -28,11 +39,56 @@ logs_at c side s None None at = at
 logs_at c side s (Some st) None at = absurd at
 logs_at c side s None (Some srv) at = absurd at
 
+-- a queue is found by its key
+found_again : (qs : List QueueRecord) → AreApart qs → (q : QueueRecord) → In q qs → queue_at q.peer q.server qs ≡ Some q
+found_again [] a q i = absurd i
+found_again (x ∷ xs) a q i = elim i [
+  | inl e ↦ ap (λ (y : QueueRecord). cond (is_record y.peer y.server x) (Some x) (queue_at y.peer y.server xs)) e ∙ (cond-true (is_record x.peer x.server x) (Some x) (queue_at x.peer x.server xs) (and_from _ _ (eq-eqb x.peer x.peer refl) (eq-eqb x.server x.server refl)) ∙ ap (λ (y : QueueRecord). Some y) (sym e))
+  | inr j ↦ cond-false (is_record q.peer q.server x) (Some x) (queue_at q.peer q.server xs) (apart (is_record q.peer q.server x) refl j) ∙ found_again xs a.1 q j
+]
+  where
+    apart : (b : Bool) → is_record q.peer q.server x ≡ b → In q xs → is_record q.peer q.server x ≡ false
+    apart false e j = e
+    apart true e j =
+        let keys = and_parts (x.peer == q.peer) (x.server == q.server) e in
+        absurd (none-some q (sym a.0 ∙ (ap (λ p. queue_at p x.server xs) (eqb-true x.peer q.peer keys.0) ∙ (ap (λ s. queue_at q.peer s xs) (eqb-true x.server q.server keys.1) ∙ found_again xs a.1 q j))))
+
+queue_told : (c : Contents) (side : Side) (s : Storage) (q : QueueRecord) → Recorded c s → In q s.queues → IsAt side q → QueueTold c side (queue_of q)
+queue_told c side s q recorded i k = record {
+  peer = k.peer;
+  known = k.known;
+  server = k.server;
+  there = k.there;
+  start = q.start;
+  starts = k.starts;
+  n = q.at;
+  place = q.place;
+  reaches = k.stands;
+  left = k.queued;
+  log = q.log;
+  logs = k.log;
+  text = λ small small'. recorded.queues q.peer q.server small small' ∙ ap (option_map queue_text) (found_again s.queues recorded.apart q i);
+}
+
+-- where there is no queue there is no record
+unqueued : (o : Option QueueRecord) → option_map queue_of o ≡ None → option_map queue_text o ≡ None
+unqueued None e = refl
+unqueued (Some q) e = absurd (none-some (queue_of q) (sym e))
+
+queues_held : (c : Contents) (core : ClusterCore) (side : Side) → QueuesStand core side → Recorded c core.queues → QueuesHeld c side
+queues_held c core side k recorded = record {
+  told = subst (AllByRecursion (QueueTold c side)) k.queues (All_mapped (QueueTold c side) queue_of core.queues.queues (All_both (λ q i h. queue_told c side core.queues q recorded i h) core.queues.queues (all_in core.queues.queues) k.at));
+  no_other = λ p s small small' none. recorded.queues p s small small' ∙ unqueued (queue_at p s core.queues.queues) (sym (queue_found core side p s k) ∙ none);
+  last = λ p r small small'. recorded.ids p r small small' ∙ ap last_text (k.last p r);
+  forms = recorded.forms ∙ ap forms_text k.forms;
+}
+
 holds : (own : Cluster) (c : Contents) (core : ClusterCore) (side : Side) → Stands own c core side → Holds c side
 holds own c core side stands = record {
   folder = stands.folder;
   logs = λ s. logs_at c side s (find (is_station s) core.stations) (find (is_server s) side.servers) (stands.servers s);
   records = stands.records;
+  queues = queues_held c core side stands.queues stands.recorded;
 }
 
 pub all_stored : (stores : Both Contents) (sides : Sides) (m : Machine) → AllStand stores sides m → Stored stores m

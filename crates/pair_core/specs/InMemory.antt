@@ -1,5 +1,5 @@
 -- The same of memory.
-use Rattle.std.specs.Prelude.{ℕ, ◌-◌, List, find, filter, length, Option, None}
+use Rattle.std.specs.Prelude.{ℕ, ◌-◌, List, filter, length, Option, None}
 use Rattle.std.specs.List.{sum_by}
 use Rattle.std.specs.Option.{option_map}
 use Rattle.rep_types.specs.declared.ids.Cluster.{Cluster}
@@ -8,22 +8,22 @@ use Rattle.rep_types.specs.declared.view.QueueView.{QueueView}
 use Rattle.rep_types.specs.declared.view.RegionLine.{RegionLine}
 use Rattle.rep_types.specs.declared.view.SideLine.{SideLine}
 use Rattle.region_meta.specs.declared.region.Region.{Region}
+use Rattle.queue_storage.specs.declared.record.QueueRecord.{QueueRecord}
+use Rattle.queue_storage.specs.Queues.{queue_at}
 use Rattle.rep_model.specs.Keyed.{given}
 use Rattle.cluster_core.specs.declared.parts.ClusterCore.{ClusterCore}
-use Rattle.cluster_core.specs.declared.parts.Line.{Line}
 use Rattle.cluster_core.specs.declared.parts.Shelf.{Shelf}
 use Rattle.cluster_core.specs.declared.parts.Station.{Station}
 use Rattle.cluster_core.specs.declared.parts.Trace.{Trace}
 use Rattle.cluster_core.specs.Lines.{added, lives, shelf_length}
-use Rattle.cluster_core.specs.Lookups.{is_line}
 use Rattle.pair_core.specs.Views.{numbers}
 
 -- a queue has left what stands behind its head
-abbrev pub line_view : List Shelf → Line → QueueView
-line_view shelves l = record { owner = l.owner; left = shelf_length l.server shelves - l.at; flight = l.flight }
+abbrev pub record_view : List Shelf → QueueRecord → QueueView
+record_view shelves q = record { owner = q.owner; left = shelf_length q.server shelves - q.at; flight = q.flight }
 
-abbrev pub line_seen : ℕ → ℕ → ClusterCore → Option QueueView
-line_seen p s core = given (added p core.peers) None (λ x. option_map (line_view core.index.shelves) (find (is_line p s) core.lines))
+abbrev pub record_seen : ℕ → ℕ → ClusterCore → Option QueueView
+record_seen p s core = given (added p core.peers) None (λ x. option_map (record_view core.index.shelves) (queue_at p s core.queues.queues))
 
 -- a region with its trace
 abbrev pub traced_view : Cluster → Region → Trace → RegionLine

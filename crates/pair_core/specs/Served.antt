@@ -33,9 +33,18 @@ is_served (event.Crash c s) = true
 is_served (event.Seal c s) = true
 is_served (event.Recover c r) = true
 is_served (event.Peer c p k ts) = is_plain k
+is_served (event.Enable c p) = true
+is_served (event.Disable c p) = true
+is_served (event.Remove c p) = true
 is_served (event.Send c p s n) = true
 is_served (event.Deliver f) = true
+is_served (event.Lose f) = true
 is_served (event.Confirm f) = true
+is_served (event.Claim c by s p) = true
+is_served (event.OldQueues c) = true
+is_served (event.MigrateBegin c) = true
+is_served (event.Migrate c p s) = true
+is_served (event.MigrateEnd c) = true
 is_served _ = false
 
 -- the cluster that a flight was sent from; of one that isn't known any
@@ -59,9 +68,18 @@ cluster_of flights (event.Crash c s) = c
 cluster_of flights (event.Seal c s) = c
 cluster_of flights (event.Recover c r) = c
 cluster_of flights (event.Peer c p k ts) = c
+cluster_of flights (event.Enable c p) = c
+cluster_of flights (event.Disable c p) = c
+cluster_of flights (event.Remove c p) = c
 cluster_of flights (event.Send c p s n) = c
 cluster_of flights (event.Deliver f) = other (source_of f flights)
+cluster_of flights (event.Lose f) = source_of f flights
 cluster_of flights (event.Confirm f) = source_of f flights
+cluster_of flights (event.Claim c by s p) = c
+cluster_of flights (event.OldQueues c) = c
+cluster_of flights (event.MigrateBegin c) = c
+cluster_of flights (event.Migrate c p s) = c
+cluster_of flights (event.MigrateEnd c) = c
 cluster_of flights _ = A
 
 -- the second of the two clusters

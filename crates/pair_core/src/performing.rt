@@ -18,8 +18,10 @@ ghost use Rattle.pair_core.specs.Performs.{Performs, FaultRose};
 use crate::sides::{Sides, accepted, cluster_of, destination, is_b};
 use cluster_core::{ClusterCore, CoreError, Sent};
 use data_events::{get, put, show};
-use peer_events::peer;
-use queue_events::{confirm, deliver, send};
+use peer_events::{
+    disable, enable, migrate, migrate_begin, migrate_end, old_queues, peer, remove,
+};
+use queue_events::{claim, confirm, deliver, lose, send};
 use region_events::{close_begin, close_end, open_begin, open_end, recover, table};
 use region_meta::RegionMap;
 use rep_types::{Cells, Duplicate, Event, Families, Items, Key, Kind, Name, Names, PeerId, Reply};
@@ -147,6 +149,9 @@ fn on_side<V: Vault>(
             tables,
             ..
         } => add_peer(core, alloc, own, beside, *peer, tables),
+        Event::Enable { peer, .. } => enable(core, alloc, own, *peer),
+        Event::Disable { peer, .. } => disable(core, alloc, own, *peer),
+        Event::Remove { peer, .. } => remove(core, alloc, own, *peer),
         Event::Send {
             peer,
             server,
@@ -157,7 +162,15 @@ fn on_side<V: Vault>(
             send(core, alloc, own, to, flights, *peer, *server, *most)
         }
         Event::Deliver { flight } => deliver(core, alloc, own, flights, *flight),
-        Event::Confirm { flight } => confirm(core, flights, *flight),
+        Event::Lose { flight } => lose(core, flights, *flight),
+        Event::Confirm { flight } => confirm(core, alloc, own, flights, *flight),
+        Event::Claim {
+            by, server, peer, ..
+        } => claim(core, own, *by, *server, *peer),
+        Event::OldQueues { .. } => old_queues(core, own),
+        Event::MigrateBegin { .. } => migrate_begin(core, own),
+        Event::Migrate { peer, server, .. } => migrate(core, own, *peer, *server),
+        Event::MigrateEnd { .. } => migrate_end(core, own),
         _ => unreachable!(),
     }
 }

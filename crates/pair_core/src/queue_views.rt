@@ -7,38 +7,39 @@ ghost use Rattle.rep_model.specs.declared.machine.Machine.{Machine};
 ghost use Rattle.cluster_core.specs.Does.{Reached};
 ghost use Rattle.cluster_core.specs.Lines.{shelf_length};
 ghost use Rattle.cluster_core.specs.Stands.{Stands};
-ghost use Rattle.pair_core.specs.InMemory.{line_view, line_seen};
+ghost use Rattle.pair_core.specs.InMemory.{record_view, record_seen};
 ghost use Rattle.pair_core.specs.Views.{queue_seen};
 
-use cluster_core::{ClusterCore, Line, Shelf, added_peer, find_line, shelf_length};
+use cluster_core::{ClusterCore, Shelf, added_peer, shelf_length};
+use queue_storage::QueueRecord;
 use rep_types::{Items, PeerId, QueueView, ServerId};
 
 // How many of the server's commits stand behind the queue's head.
-fn left(shelves: &Items<Shelf>, line: &Line) -> u64
-    ensures { result ≡ shelf_length line.now.server shelves.now - line.now.at }
+fn left(shelves: &Items<Shelf>, queue: &QueueRecord) -> u64
+    ensures { result ≡ shelf_length queue.now.server shelves.now - queue.now.at }
 {
-    shelf_length(shelves, line.server).saturating_sub(line.at)
+    shelf_length(shelves, queue.server).saturating_sub(queue.at)
 }
 
-fn line_view(shelves: &Items<Shelf>, line: &Line) -> QueueView
-    ensures { result ≡ line_view shelves.now line.now }
+fn record_view(shelves: &Items<Shelf>, queue: &QueueRecord) -> QueueView
+    ensures { result ≡ record_view shelves.now queue.now }
 {
     QueueView {
-        owner: line.owner,
-        left: left(shelves, line),
-        flight: line.flight,
+        owner: queue.owner,
+        left: left(shelves, queue),
+        flight: queue.flight,
     }
 }
 
 #[tactic(auto, unfolding(rep_model::specs::Keyed::given))]
-fn line_seen(core: &ClusterCore, peer: PeerId, server: ServerId) -> Option<QueueView>
-    ensures { result ≡ line_seen peer server core.now }
+fn record_seen(core: &ClusterCore, peer: PeerId, server: ServerId) -> Option<QueueView>
+    ensures { result ≡ record_seen peer server core.now }
 {
     match added_peer(&core.peers, peer) {
         None => None,
-        Some(_) => match find_line(&core.lines, peer, server) {
+        Some(_) => match core.queues.queue(peer, server) {
             None => None,
-            Some(line) => Some(line_view(&core.index.shelves, line)),
+            Some(queue) => Some(record_view(&core.index.shelves, queue)),
         },
     }
 }
@@ -51,5 +52,5 @@ pub fn queue_view(core: &ClusterCore, peer: PeerId, server: ServerId) -> Option<
         → Stands core.now.own c core.now (of core.now.own m)
         → result ≡ queue_seen peer server (of core.now.own m) }
 {
-    line_seen(core, peer, server)
+    record_seen(core, peer, server)
 }

@@ -104,9 +104,18 @@ pub fn cluster_of(flights: &Items<Sent>, event: &Event) -> Cluster
         Event::Seal { cluster, .. } => *cluster,
         Event::Recover { cluster, .. } => *cluster,
         Event::Peer { cluster, .. } => *cluster,
+        Event::Enable { cluster, .. } => *cluster,
+        Event::Disable { cluster, .. } => *cluster,
+        Event::Remove { cluster, .. } => *cluster,
         Event::Send { cluster, .. } => *cluster,
         Event::Deliver { flight } => destination(source_of(flights, *flight)),
+        Event::Lose { flight } => source_of(flights, *flight),
         Event::Confirm { flight } => source_of(flights, *flight),
+        Event::Claim { cluster, .. } => *cluster,
+        Event::OldQueues { cluster } => *cluster,
+        Event::MigrateBegin { cluster } => *cluster,
+        Event::Migrate { cluster, .. } => *cluster,
+        Event::MigrateEnd { cluster } => *cluster,
         _ => Cluster::A,
     }
 }

@@ -19,6 +19,8 @@ use Rattle.script_text.specs.declared.head.OnServer.{OnServer}
 use Rattle.script_text.specs.declared.head.OnServer.TheVariants as server_word
 use Rattle.script_text.specs.declared.head.OnRegion.{OnRegion}
 use Rattle.script_text.specs.declared.head.OnRegion.TheVariants as region_word
+use Rattle.script_text.specs.declared.head.OnPeer.{OnPeer}
+use Rattle.script_text.specs.declared.head.OnPeer.TheVariants as peer_word
 use Rattle.script_text.specs.declared.head.OnQueue.{OnQueue}
 use Rattle.script_text.specs.declared.head.OnQueue.TheVariants as queue_word
 use Rattle.script_text.specs.declared.head.OnPlace.{OnPlace}
@@ -39,8 +41,8 @@ use Rattle.pair_core.specs.Served as pair
 use Rattle.script_text.specs.Heads.{head_of, is_barred, is_performed, is_performed_kind}
 use Rattle.script_text.specs.Lines.{begins_with}
 use Rattle.script_text.specs.Lists.{tables_word, specs_word}
-use Rattle.script_text.specs.Makings.{cluster_command, server_command, region_command, queue_command, place_command}
-use Rattle.script_text.specs.Meanings.{cluster_alone, cluster_and_one, cluster_and_two, cluster_and_three, cluster_and_some, alone, on_cluster, on_server, on_region, on_queue, on_place, on_flight, send, fail, keep, table, get, show, performed_kind, peer}
+use Rattle.script_text.specs.Makings.{cluster_command, server_command, region_command, peer_command, queue_command, place_command}
+use Rattle.script_text.specs.Meanings.{cluster_alone, cluster_and_one, cluster_and_two, cluster_and_three, cluster_and_some, alone, on_cluster, on_server, on_region, on_peer, on_queue, on_place, on_flight, send, claim, fail, keep, table, get, show, performed_kind, peer}
 use Rattle.script_text.specs.Puts.{cluster_and_cells, put}
 use Rattle.script_text.specs.Steps.{and_then}
 use Rattle.script_text.specs.Words.{has_word, words_of, one_word}
@@ -64,6 +66,9 @@ cluster-is : (word : OnCluster) → is_performed (head.OnCluster word) ≡ true 
 cluster-is on_cluster_word.SyncAll p c = refl
 cluster-is on_cluster_word.Queues p c = refl
 cluster-is on_cluster_word.Regions p c = refl
+cluster-is on_cluster_word.OldQueues p c = refl
+cluster-is on_cluster_word.MigrateBegin p c = refl
+cluster-is on_cluster_word.MigrateEnd p c = refl
 cluster-is _ p c = absurd (cc p)
 
 cluster-served : (word : OnCluster) (args : List (List ℕ)) (c : Command) → is_performed (head.OnCluster word) ≡ true → on_cluster word args ≡ Ok c → is_served c ≡ true
@@ -115,29 +120,54 @@ place-served word args c h =
     let u = step-ok (number_word 1 64 s.0.2) _ c t.2 in
     ap served_in (sym u.2) ∙ place-is word s.0.0 t.0 u.0 ∙ two-paired args s.0 s.1
 
-flight-served : (word : OnFlight) (args : List (List ℕ)) (c : Command) → is_performed (head.OnFlight word) ≡ true → on_flight word args ≡ Ok c → is_served c ≡ true
+flight-served : (word : OnFlight) (args : List (List ℕ)) (c : Command) → on_flight word args ≡ Ok c → is_served c ≡ true
 unfolding on_flight
-flight-served flight_word.Deliver args c p h =
+flight-served flight_word.Deliver args c h =
     let s = step-ok (one_word args) _ c h in
     let t = step-ok (number_word 1 4294967295 s.0) _ c s.2 in
     ap served_in (sym t.2) ∙ (and_parts (nat_le 1 t.0) (nat_le t.0 4294967295) (word-within 1 4294967295 s.0 t.0 t.1)).0
-flight-served flight_word.Confirm args c p h =
+flight-served flight_word.Confirm args c h =
     let s = step-ok (one_word args) _ c h in
     let t = step-ok (number_word 1 4294967295 s.0) _ c s.2 in
     ap served_in (sym t.2) ∙ (and_parts (nat_le 1 t.0) (nat_le t.0 4294967295) (word-within 1 4294967295 s.0 t.0 t.1)).0
-flight-served _ args c p h = absurd (cc p)
+flight-served flight_word.Lose args c h =
+    let s = step-ok (one_word args) _ c h in
+    let t = step-ok (number_word 1 4294967295 s.0) _ c s.2 in
+    ap served_in (sym t.2) ∙ (and_parts (nat_le 1 t.0) (nat_le t.0 4294967295) (word-within 1 4294967295 s.0 t.0 t.1)).0
 
-queue-is : (word : OnQueue) → is_performed (head.OnQueue word) ≡ true → (c : Cluster) (p s : ℕ) → is_served (queue_command word c p s) ≡ is_paired c
-queue-is queue_word.Ship h c p s = refl
-queue-is queue_word.Migrate h c p s = absurd (cc h)
+queue-is : (word : OnQueue) (c : Cluster) (p s : ℕ) → is_served (queue_command word c p s) ≡ is_paired c
+queue-is queue_word.Ship c p s = refl
+queue-is queue_word.Migrate c p s = refl
 
-queue-served : (word : OnQueue) (args : List (List ℕ)) (c : Command) → is_performed (head.OnQueue word) ≡ true → on_queue word args ≡ Ok c → is_served c ≡ true
+queue-served : (word : OnQueue) (args : List (List ℕ)) (c : Command) → on_queue word args ≡ Ok c → is_served c ≡ true
 unfolding on_queue
-queue-served word args c p h =
+queue-served word args c h =
     let s = step-ok (cluster_and_two args) _ c h in
     let t = step-ok (number_word 1 4 s.0.1) _ c s.2 in
     let u = step-ok (number_word 1 64 s.0.2) _ c t.2 in
-    ap served_in (sym u.2) ∙ queue-is word p s.0.0 t.0 u.0 ∙ two-paired args s.0 s.1
+    ap served_in (sym u.2) ∙ queue-is word s.0.0 t.0 u.0 ∙ two-paired args s.0 s.1
+
+peer-is : (word : OnPeer) → is_performed (head.OnPeer word) ≡ true → (c : Cluster) (p : ℕ) → is_served (peer_command word c p) ≡ is_paired c
+peer-is peer_word.Enable h c p = refl
+peer-is peer_word.Disable h c p = refl
+peer-is peer_word.Remove h c p = refl
+peer-is peer_word.MakeSerial h c p = absurd (cc h)
+
+peer-word-served : (word : OnPeer) (args : List (List ℕ)) (c : Command) → is_performed (head.OnPeer word) ≡ true → on_peer word args ≡ Ok c → is_served c ≡ true
+unfolding on_peer
+peer-word-served word args c p h =
+    let s = step-ok (cluster_and_one args) _ c h in
+    let t = step-ok (number_word 1 4 s.0.1) _ c s.2 in
+    ap served_in (sym t.2) ∙ peer-is word p s.0.0 t.0 ∙ one-paired args s.0 s.1
+
+claim-served : (args : List (List ℕ)) (c : Command) → claim args ≡ Ok c → is_served c ≡ true
+unfolding claim
+claim-served args c h =
+    let s = step-ok (cluster_and_three args) _ c h in
+    let t = step-ok (number_word 1 64 s.0.1) _ c s.2 in
+    let u = step-ok (number_word 1 64 s.0.2) _ c t.2 in
+    let v = step-ok (number_word 1 4 s.0.3) _ c u.2 in
+    ap served_in (sym v.2) ∙ three-paired args s.0 s.1
 
 send-served : (args : List (List ℕ)) (c : Command) → send args ≡ Ok c → is_served c ≡ true
 unfolding send
@@ -252,10 +282,10 @@ unfolding meaning
 meaning-served repeated (head.OnCluster word) args made p i h = command-served repeated _ made (λ c g. cluster-served word args c p g) h
 meaning-served repeated (head.OnServer word) args made p i h = command-served repeated _ made (λ c g. server-served word args c p g) h
 meaning-served repeated (head.OnRegion word) args made p i h = command-served repeated _ made (λ c g. region-served word args c p g) h
-meaning-served repeated (head.OnPeer word) args made p i h = absurd (cc p)
-meaning-served repeated (head.OnQueue word) args made p i h = command-served repeated _ made (λ c g. queue-served word args c p g) h
+meaning-served repeated (head.OnPeer word) args made p i h = command-served repeated _ made (λ c g. peer-word-served word args c p g) h
+meaning-served repeated (head.OnQueue word) args made p i h = command-served repeated _ made (λ c g. queue-served word args c g) h
 meaning-served repeated (head.OnPlace word) args made p i h = command-served repeated _ made (λ c g. place-served word args c g) h
-meaning-served repeated (head.OnFlight word) args made p i h = command-served repeated _ made (λ c g. flight-served word args c p g) h
+meaning-served repeated (head.OnFlight word) args made p i h = command-served repeated _ made (λ c g. flight-served word args c g) h
 meaning-served repeated (head.Alone word) args made p i h = command-served repeated _ made (λ c g. alone-served word args c p i g) h
 meaning-served repeated head.Table args made p i h = command-served repeated _ made (λ c g. table-served args c g) h
 meaning-served repeated head.Put args made p i h = put-served repeated args made h
@@ -265,7 +295,7 @@ meaning-served repeated head.Split args made p i h = absurd (cc p)
 meaning-served repeated head.Merge args made p i h = absurd (cc p)
 meaning-served repeated head.Peer args made p i h = command-served repeated _ made (λ c g. peer-served args c g) h
 meaning-served repeated head.Send args made p i h = command-served repeated _ made (λ c g. send-served args c g) h
-meaning-served repeated head.Claim args made p i h = absurd (cc p)
+meaning-served repeated head.Claim args made p i h = command-served repeated _ made (λ c g. claim-served args c g) h
 meaning-served repeated head.TransitBegin args made p i h = absurd (cc p)
 meaning-served repeated head.Fail args made p i h = command-served repeated _ made (λ c g. fail-served args c g) h
 meaning-served repeated head.Keep args made p i h = command-served repeated _ made (λ c g. keep-served args c g) h

@@ -128,23 +128,21 @@ head_of word =
 
 -- the program performs the command; some it doesn't yet
 abbrev pub is_performed : Head → Bool
-is_performed (head.OnCluster on_cluster.SyncAll) = true
-is_performed (head.OnCluster on_cluster.Queues) = true
-is_performed (head.OnCluster on_cluster.Regions) = true
-is_performed (head.OnCluster word) = false
-is_performed (head.OnPeer word) = false
-is_performed (head.OnQueue on_queue.Ship) = true
-is_performed (head.OnQueue on_queue.Migrate) = false
+is_performed (head.OnCluster on_cluster.TransitEnd) = false
+is_performed (head.OnCluster on_cluster.MakeFolder) = false
+is_performed (head.OnCluster on_cluster.PromoteBegin) = false
+is_performed (head.OnCluster on_cluster.Replay) = false
+is_performed (head.OnCluster on_cluster.PromoteEnd) = false
+is_performed (head.OnCluster on_cluster.Promote) = false
+is_performed (head.OnPeer on_peer.MakeSerial) = false
 is_performed (head.OnServer on_server.Sweep) = false
 is_performed (head.OnServer on_server.SweepRemote) = false
 is_performed (head.OnServer on_server.Mirror) = false
 is_performed (head.OnRegion on_region.Flush) = false
 is_performed (head.OnRegion on_region.Compact) = false
-is_performed (head.OnFlight on_flight.Lose) = false
 is_performed (head.Alone alone.Drain) = false
 is_performed head.Split = false
 is_performed head.Merge = false
-is_performed head.Claim = false
 is_performed head.TransitBegin = false
 is_performed _ = true
 

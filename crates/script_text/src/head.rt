@@ -367,20 +367,23 @@ pub fn is_performed(head: Head) -> bool
     ensures { result ≡ is_performed head }
 {
     match head {
-        Head::OnCluster(word) => matches!(
+        Head::OnCluster(word) => !matches!(
             word,
-            OnCluster::SyncAll | OnCluster::Queues | OnCluster::Regions
+            OnCluster::TransitEnd
+                | OnCluster::MakeFolder
+                | OnCluster::PromoteBegin
+                | OnCluster::Replay
+                | OnCluster::PromoteEnd
+                | OnCluster::Promote
         ),
-        Head::OnPeer(_) => false,
-        Head::OnQueue(word) => matches!(word, OnQueue::Ship),
+        Head::OnPeer(word) => !matches!(word, OnPeer::MakeSerial),
         Head::OnServer(word) => !matches!(
             word,
             OnServer::Sweep | OnServer::SweepRemote | OnServer::Mirror
         ),
         Head::OnRegion(word) => !matches!(word, OnRegion::Flush | OnRegion::Compact),
-        Head::OnFlight(word) => !matches!(word, OnFlight::Lose),
         Head::Alone(word) => !matches!(word, Alone::Drain),
-        Head::Split | Head::Merge | Head::Claim | Head::TransitBegin => false,
+        Head::Split | Head::Merge | Head::TransitBegin => false,
         _ => true,
     }
 }

@@ -54,6 +54,34 @@ const PEER: Row = Row {
 12 peer % 2 plain t -> exists\n",
 };
 
+/// Each change of a peer puts its record, and a failed one changes nothing.
+const PEERS: Row = Row {
+    script: b"fail % put 1\ndisable % 1\ndisable % 1\nfail % put 1\nenable % 1\nput % t r1 f:q@10=v\nsync % 1\nsend % 1 1\nenable % 1\n\
+fail % put 1\nremove % 1\nsend % 1 1\nremove % 1\nqueues %\n",
+    lines: b"10 disable % 1 -> storefault store=% call=put count=1\n11 disable % 1 -> ok\n\
+12 enable % 1 -> storefault store=% call=put count=2\n13 put % t r1 f:q@10=v -> ok region=1 seq=2 ticket=1\n\
+14 sync % 1 -> ok commits=1 acks=1\n15 send % 1 1 25 -> disabled\n16 enable % 1 -> ok\n\
+17 remove % 1 -> storefault store=% call=put count=3\n18 send % 1 1 25 -> ok flight=1 entries=1 forms=1\n\
+19 remove % 1 -> ok\n",
+};
+
+/// A confirm puts the queue's record; where that fails the flight stays outstanding.
+const CONFIRM: Row = Row {
+    script: b"put % t r1 f:q@10=v\nsync % 1\nsend % 1 1\ndeliver 1\nfail % put 1\nconfirm 1\nsend % 1 1\nconfirm 1\n",
+    lines: b"10 put % t r1 f:q@10=v -> ok region=1 seq=2 ticket=1\n11 sync % 1 -> ok commits=1 acks=1\n\
+12 send % 1 1 25 -> ok flight=1 entries=1 forms=1\n13 deliver 1 -> all arrived=1 acks=-\n\
+14 confirm 1 -> storefault store=% call=put count=1\n15 send % 1 1 25 -> outstanding flight=1\n\
+16 confirm 1 -> ok recorded=1\n",
+};
+
+/// A claim puts the queue's record.
+const CLAIM: Row = Row {
+    script: b"server % 2\ncrash % 1\nfail % put 1\nclaim % 2 1 1\nqueues %\nclaim % 2 1 1\nclaim % 2 1 1\n",
+    lines: b"10 server % 2 -> ok\n11 crash % 1 -> ok doubtful=-\n\
+12 claim % 2 1 1 -> storefault store=% call=put count=1\nqueue % 1 1 owner=1 left=0 flight=none\n\
+queue % 1 2 owner=2 left=0 flight=none\n13 claim % 2 1 1 -> ok\n14 claim % 2 1 1 -> owned by=2\n",
+};
+
 /// A roll makes the next file, puts the record and seals the file that was.
 const ROLL: Row = Row {
     script: b"fail % create 1\nroll % 1\nfail % put 1\nroll % 1\nfail % seal 1\nroll % 1\nroll % 1\n",
@@ -155,6 +183,9 @@ fn failing_calls_are_told(rt: HostRuntime) -> Result<(), Fail> {
     assert!(rt; prints_of_both(alloc, &OPEN)?);
     assert!(rt; prints_of_both(alloc, &CLOSE)?);
     assert!(rt; prints_of_both(alloc, &PEER)?);
+    assert!(rt; prints_of_both(alloc, &PEERS)?);
+    assert!(rt; prints_of_both(alloc, &CONFIRM)?);
+    assert!(rt; prints_of_both(alloc, &CLAIM)?);
     assert!(rt; prints_of_both(alloc, &ROLL)?);
     assert!(rt; prints_of_both(alloc, &SYNC)?);
     assert!(rt; prints_of_both(alloc, &SHIP)?);

@@ -129,3 +129,72 @@ show b t\nshow a t\n",
 | r1 f:q@10=new\n21 deliver 1 -> all arrived=1 acks=-\n22 show b t -> ok cells=1\n| r1 f:q@10=old\n\
 23 show a t -> ok cells=1\n| r1 f:q@10=new\n",
 };
+
+/// A dead server's queues are claimed by live ones, each once.
+pub const CLAIMS: Row = Row {
+    script: b"server a 3\nclaim a 2 1 1\ncrash a 1\nclaim a 2 1 1\nclaim a 3 1 1\nclaim a 3 2 1\nclaim a 4 1 1\nclaim a 2 1 2\n\
+claim a 1 1 1\nqueues a\n",
+    lines: b"11 server a 3 -> ok\n12 claim a 2 1 1 -> owned by=1\n13 crash a 1 -> ok doubtful=-\n\
+14 claim a 2 1 1 -> ok\n15 claim a 3 1 1 -> owned by=2\n16 claim a 3 2 1 -> owned by=2\n\
+17 claim a 4 1 1 -> noserver\n18 claim a 2 1 2 -> nopeer\n19 claim a 1 1 1 -> dead server=1\n\
+queue a 1 1 owner=2 left=0 flight=none\nqueue a 1 2 owner=2 left=0 flight=none\nqueue a 1 3 owner=3 left=0 flight=none\n",
+};
+
+/// A flight may arrive again after its queue was claimed, and isn't recorded then.
+pub const A_CLAIM_AND_A_FLIGHT: Row = Row {
+    script: b"put a t r1 f:q@10=v\nsync a 1\nsend a 1 1 25\ndeliver 1\ncrash a 1\nclaim a 2 1 1\ndeliver 1\nshow b t\n\
+confirm 1\nsend a 1 1 25\nconfirm 1\nconfirm 2\n",
+    lines: b"11 put a t r1 f:q@10=v -> ok region=1 seq=2 ticket=1\n12 sync a 1 -> ok commits=1 acks=1\n\
+13 send a 1 1 25 -> ok flight=1 entries=1 forms=1\n14 deliver 1 -> all arrived=1 acks=-\n\
+15 crash a 1 -> ok doubtful=-\n16 claim a 2 1 1 -> ok\n17 deliver 1 -> all arrived=1 acks=-\n\
+18 show b t -> ok cells=1\n| r1 f:q@10=v\n19 confirm 1 -> stale now=none\n\
+20 send a 1 1 25 -> ok flight=2 entries=1 forms=1\n21 confirm 1 -> stale now=2\n22 confirm 2 -> notdelivered flight=2\n",
+};
+
+/// A lost flight's entries are sent again, and it is recorded no more.
+pub const LOSES: Row = Row {
+    script: b"lose 1\nput a t r1 f:q@10=v\nsync a 1\nsend a 1 1\nsend a 1 1\nlose 1\nlose 1\nsend a 1 1\nlose 1\nconfirm 1\n\
+deliver 2\nconfirm 2\nlose 2\nsend a 1 1\n",
+    lines: b"10 lose 1 -> noflight\n11 put a t r1 f:q@10=v -> ok region=1 seq=2 ticket=1\n\
+12 sync a 1 -> ok commits=1 acks=1\n13 send a 1 1 25 -> ok flight=1 entries=1 forms=1\n\
+14 send a 1 1 25 -> outstanding flight=1\n15 lose 1 -> ok\n16 lose 1 -> stale now=none\n\
+17 send a 1 1 25 -> ok flight=2 entries=1 forms=1\n18 lose 1 -> stale now=2\n19 confirm 1 -> stale now=2\n\
+20 deliver 2 -> all arrived=1 acks=-\n21 confirm 2 -> ok recorded=1\n22 lose 2 -> stale now=none\n\
+23 send a 1 1 25 -> empty\n",
+};
+
+/// A disabled peer sends nothing, and a removed one has no queue and comes back no more.
+pub const PEERS: Row = Row {
+    script: b"put a t r1 f:q@10=v\nsync a 1\ndisable a 1\nsend a 1 1\nenable a 1\nsend a 1 1\ndeliver 1\nremove a 1\nconfirm 1\n\
+lose 1\nsend a 1 1\nenable a 1\nremove a 1\npeer a 1 plain t\ndisable a 2\nqueues a\n",
+    lines: b"10 put a t r1 f:q@10=v -> ok region=1 seq=2 ticket=1\n11 sync a 1 -> ok commits=1 acks=1\n\
+12 disable a 1 -> ok\n13 send a 1 1 25 -> disabled\n14 enable a 1 -> ok\n\
+15 send a 1 1 25 -> ok flight=1 entries=1 forms=1\n16 deliver 1 -> all arrived=1 acks=-\n17 remove a 1 -> ok\n\
+18 confirm 1 -> nopeer\n19 lose 1 -> stale now=none\n20 send a 1 1 25 -> nopeer\n21 enable a 1 -> nopeer\n\
+22 remove a 1 -> nopeer\n23 peer a 1 plain t -> exists\n24 disable a 2 -> nopeer\n",
+};
+
+/// Records are listed only where a cluster has no server yet.
+pub const OLD_QUEUES_TOO_LATE: Row = Row {
+    script: b"oldqueues a\nmigratebegin a\n",
+    lines: b"10 oldqueues a -> exists\n11 migratebegin a -> notold\n",
+};
+
+/// What opens the rows of a cluster a with listed records.
+pub const OLD_QUEUES: Row = Row {
+    script: b"oldqueues a\nserver a 1\nserver b 1\ntable a t f/1\ntable b t f/1\nopen a 1 1\nopen b 1 1\npeer a 1 plain t\n",
+    lines: b"1 oldqueues a -> ok\n2 server a 1 -> ok\n3 server b 1 -> ok\n4 table a t f/1 -> ok region=1\n\
+5 table b t f/1 -> ok region=1\n6 openbegin a 1 1 -> ok barrier=1\n7 openend a 1 -> ok seq=1 acks=-\n\
+8 openbegin b 1 1 -> ok barrier=1\n9 openend b 1 -> ok seq=1 acks=-\n10 peer a 1 plain t -> ok\n",
+};
+
+/// The records of a cluster's queues turn one by one while its servers go on.
+pub const MIGRATION: Row = Row {
+    script: b"put a t r1 f:q@10=v\nsync a 1\nship a 1 1\nmigrate a 1 1\nmigratebegin a\nmigrateend a\nserver a 2\n\
+migrate a 1 1\nmigrate a 1 1\nmigrateend a\n",
+    lines: b"11 put a t r1 f:q@10=v -> ok region=1 seq=2 ticket=1\n12 sync a 1 -> ok commits=1 acks=1\n\
+13 send a 1 1 25 -> ok flight=1 entries=1 forms=1\n14 deliver 1 -> all arrived=1 acks=-\n\
+15 confirm 1 -> ok recorded=1\n16 migrate a 1 1 -> notmixed\n17 migratebegin a -> ok\n\
+18 migrateend a -> unmigrated queue=1/1\n19 server a 2 -> ok\n20 migrate a 1 1 -> ok\n\
+21 migrate a 1 1 -> migrated\n22 migrateend a -> ok\n",
+};

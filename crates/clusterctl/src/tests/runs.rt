@@ -1,8 +1,9 @@
 ghost use Rattle.std.specs.Prelude.{◌≡◌, ◌≤◌};
 
 use crate::tests::rows::{
-    A_CRASH, A_CRASH_WITHOUT_COMMITS, A_MOVE, A_REPEAT, FAILED_APPEND, FAILED_SYNC, FULL_LOG, LOST,
-    MOVED, Row, TORN, TWO_SERVERS,
+    A_CLAIM_AND_A_FLIGHT, A_CRASH, A_CRASH_WITHOUT_COMMITS, A_MOVE, A_REPEAT, CLAIMS,
+    FAILED_APPEND, FAILED_SYNC, FULL_LOG, LOSES, LOST, MIGRATION, MOVED, OLD_QUEUES,
+    OLD_QUEUES_TOO_LATE, PEERS, Row, TORN, TWO_SERVERS,
 };
 use rep_io::{MemSink, MemSource};
 use rep_types::{Argv, Bytes, Items, Status, Text, Words};
@@ -118,18 +119,25 @@ fn scripts_print_their_lines(rt: HostRuntime) -> Result<(), Fail> {
     Ok(())
 }
 
+// Whether a row prints its lines behind those of another one.
+fn prints_behind(alloc: Global, opening: &Row, row: &Row) -> Result<bool, Fail> {
+    let script = join(alloc, opening.script, row.script)?;
+    let lines = join(alloc, opening.lines, row.lines)?;
+    runs(alloc, script, sound(4096), Status::Ok, lines.as_slice())
+}
+
 // Whether a row prints its lines behind those of the opening.
 fn prints(alloc: Global, row: &Row) -> Result<bool, Fail> {
-    let script = join(alloc, OPENING, row.script)?;
-    let lines = join(alloc, OPENED, row.lines)?;
-    runs(alloc, script, sound(4096), Status::Ok, lines.as_slice())
+    let opening = Row {
+        script: OPENING,
+        lines: OPENED,
+    };
+    prints_behind(alloc, &opening, row)
 }
 
 // Whether a row prints its lines behind those of the opening with two servers.
 fn prints_of_two(alloc: Global, row: &Row) -> Result<bool, Fail> {
-    let script = join(alloc, TWO_SERVERS.script, row.script)?;
-    let lines = join(alloc, TWO_SERVERS.lines, row.lines)?;
-    runs(alloc, script, sound(4096), Status::Ok, lines.as_slice())
+    prints_behind(alloc, &TWO_SERVERS, row)
 }
 
 #[test]
@@ -145,6 +153,18 @@ fn rows_print_their_lines(rt: HostRuntime) -> Result<(), Fail> {
     assert!(rt; prints_of_two(alloc, &A_MOVE)?);
     assert!(rt; prints_of_two(alloc, &A_CRASH)?);
     assert!(rt; prints_of_two(alloc, &A_CRASH_WITHOUT_COMMITS)?);
+    Ok(())
+}
+
+#[test]
+fn rows_of_queues_print_their_lines(rt: HostRuntime) -> Result<(), Fail> {
+    let alloc = rt.alloc();
+    assert!(rt; prints_of_two(alloc, &CLAIMS)?);
+    assert!(rt; prints_of_two(alloc, &A_CLAIM_AND_A_FLIGHT)?);
+    assert!(rt; prints(alloc, &LOSES)?);
+    assert!(rt; prints(alloc, &PEERS)?);
+    assert!(rt; prints(alloc, &OLD_QUEUES_TOO_LATE)?);
+    assert!(rt; prints_behind(alloc, &OLD_QUEUES, &MIGRATION)?);
     Ok(())
 }
 

@@ -60,12 +60,46 @@ fn holds_what_was_shipped(alloc: Global) -> Result<bool, Fail> {
             && has_log(alloc, &mut b, &LOG_OF_B)?
             && has_records(alloc, &mut a)?
             && has_records(alloc, &mut b)?
-            && has_record(alloc, &mut a, "peer/1", b"plain enabled t")?,
+            && has_record(alloc, &mut a, "peer/1", b"plain enabled t")?
+            && has_record(alloc, &mut a, "queue/1/1", b"group 1 1 32 1 88")?
+            && has_record(alloc, &mut a, "last/1/1", b"2")?,
     )
 }
+
+// Whether cluster a's queue has this record after a script behind `oldqueues`.
+fn holds_queue(alloc: Global, behind: &[u8], text: &[u8]) -> Result<bool, Fail> {
+    let opened = join(alloc, b"oldqueues a\n", OPENING)?;
+    let script = join(alloc, opened.as_slice(), behind)?;
+    let Outcome {
+        status: _,
+        mut a,
+        b: _,
+    } = performed(alloc, script)?;
+    has_record(alloc, &mut a, "queue/1/1", text)
+}
+
+const SHIPPED: &[u8] = b"put a t r1 f:q@10=v\nsync a 1\nship a 1 1\n";
+
+const ROLLED: &[u8] = b"put a t r1 f:q@10=v\nsync a 1\nship a 1 1\nroll a 1\n";
+
+const CLAIMED: &[u8] = b"server a 2\ncrash a 1\nclaim a 2 1 1\n";
+
+const MIGRATED: &[u8] =
+    b"put a t r1 f:q@10=v\nsync a 1\nship a 1 1\nmigratebegin a\nmigrate a 1 1\n";
 
 #[test]
 fn stores_hold_what_was_shipped(rt: HostRuntime) -> Result<(), Fail> {
     assert!(rt; holds_what_was_shipped(rt.alloc())?);
+    Ok(())
+}
+
+#[test]
+fn listed_records_tell_their_logs(rt: HostRuntime) -> Result<(), Fail> {
+    let alloc = rt.alloc();
+    assert!(rt; holds_queue(alloc, b"", b"1 1 32 32 1")?);
+    assert!(rt; holds_queue(alloc, SHIPPED, b"1 1 32 88 1")?);
+    assert!(rt; holds_queue(alloc, ROLLED, b"1 1 32 88 1,2")?);
+    assert!(rt; holds_queue(alloc, CLAIMED, b"2 1 32 32 1")?);
+    assert!(rt; holds_queue(alloc, MIGRATED, b"group 1 1 32 1 88")?);
     Ok(())
 }

@@ -8,10 +8,15 @@ use Rattle.pair_core.specs.Served.{is_served, cluster_of}
 use Rattle.pair_core.proofs.Seen.{plain_only, told_here, source_here, to_sink}
 use Rattle.pair_core.proofs.performing.on_side.Goals as goal
 
+pub returns-in-Lose-clause-does : goal.returns-in-Lose-clause-does
+returns-in-Lose-clause-does g c = λ m h.
+    subst (λ (e : Event). FliesOr Pair c.args.core.now.own e m (g.V.Vault.contents c.args.own.now) c.args.core.now c.args.flights.now (g.V.Vault.contents c.args.own.now) c.lose.new.core c.args.flights.now c.lose.result) (sym c.in-Lose.is)
+    (c.lose.ensures.does Pair (g.V.Vault.contents c.args.own.now) m h.reached h.paired h.stands h.flights_are (source_here m h.reached c.args.flights.now h.flights_are c.in-Lose.flight c.args.core.now.own (ap (cluster_of c.args.flights.now) (sym c.in-Lose.is) ∙ c.requires.here)))
+
 pub returns-in-Confirm-clause-does : goal.returns-in-Confirm-clause-does
 returns-in-Confirm-clause-does g c = λ m h.
-    subst (λ (e : Event). FliesOr Pair c.args.core.now.own e m (g.V.Vault.contents c.args.own.now) c.args.core.now c.args.flights.now (g.V.Vault.contents c.args.own.now) c.confirm.new.core c.args.flights.now c.confirm.result) (sym c.in-Confirm.is)
-    (c.confirm.ensures.does Pair (g.V.Vault.contents c.args.own.now) m h.reached h.paired h.stands h.flights_are (source_here m h.reached c.args.flights.now h.flights_are c.in-Confirm.flight c.args.core.now.own (ap (cluster_of c.args.flights.now) (sym c.in-Confirm.is) ∙ c.requires.here)))
+    subst (λ (e : Event). FliesOr Pair c.args.core.now.own e m (g.V.Vault.contents c.args.own.now) c.args.core.now c.args.flights.now (g.V.Vault.contents c.confirm.new.own) c.confirm.new.core c.args.flights.now c.confirm.result) (sym c.in-Confirm.is)
+    (c.confirm.ensures.does Pair m h.reached h.paired h.stands h.flights_are (source_here m h.reached c.args.flights.now h.flights_are c.in-Confirm.flight c.args.core.now.own (ap (cluster_of c.args.flights.now) (sym c.in-Confirm.is) ∙ c.requires.here)))
 
 pub deliver-requires : goal.deliver-requires
 deliver-requires g c = (Pair, c.requires.standing.0, to_sink c.args.core.now.own (g.V.Vault.contents c.args.own.now) c.args.core.now c.args.beside.now c.args.flights.now c.args.tickets c.in-Deliver.flight c.requires.standing.0 c.requires.standing.1 (ap (cluster_of c.args.flights.now) (sym c.in-Deliver.is) ∙ c.requires.here))
@@ -127,3 +132,59 @@ returns-in-Peer-default-default-Plain-default-clause-does g c = λ m h.
     m (g.V.Vault.contents c.args.own.now) c.args.core.now c.args.flights.now (g.V.Vault.contents c.add_peer.new.own) c.add_peer.new.core c.add_peer.result
     (arm.is ∙ ap (λ x. event.Peer arm.cluster arm.peer x arm.tables) plain) (ap (cluster_of c.args.flights.now) (sym arm.is) ∙ c.requires.here) h.flights_are
     (c.add_peer.ensures.does Pair m h.reached h.paired h.stands h.beside_is)
+
+pub returns-in-Enable-clause-does : goal.returns-in-Enable-clause-does
+returns-in-Enable-clause-does g c = λ m h.
+    told_here c.args.core.now.own (λ k. event.Enable k c.in-Enable.peer) c.args.event.now c.in-Enable.cluster
+    m (g.V.Vault.contents c.args.own.now) c.args.core.now c.args.flights.now (g.V.Vault.contents c.enable.new.own) c.enable.new.core c.enable.result
+    c.in-Enable.is (ap (cluster_of c.args.flights.now) (sym c.in-Enable.is) ∙ c.requires.here) h.flights_are
+    (c.enable.ensures.does Pair m h.reached h.paired h.stands)
+
+pub returns-in-Disable-clause-does : goal.returns-in-Disable-clause-does
+returns-in-Disable-clause-does g c = λ m h.
+    told_here c.args.core.now.own (λ k. event.Disable k c.in-Disable.peer) c.args.event.now c.in-Disable.cluster
+    m (g.V.Vault.contents c.args.own.now) c.args.core.now c.args.flights.now (g.V.Vault.contents c.disable.new.own) c.disable.new.core c.disable.result
+    c.in-Disable.is (ap (cluster_of c.args.flights.now) (sym c.in-Disable.is) ∙ c.requires.here) h.flights_are
+    (c.disable.ensures.does Pair m h.reached h.paired h.stands)
+
+pub returns-in-Remove-clause-does : goal.returns-in-Remove-clause-does
+returns-in-Remove-clause-does g c = λ m h.
+    told_here c.args.core.now.own (λ k. event.Remove k c.in-Remove.peer) c.args.event.now c.in-Remove.cluster
+    m (g.V.Vault.contents c.args.own.now) c.args.core.now c.args.flights.now (g.V.Vault.contents c.remove.new.own) c.remove.new.core c.remove.result
+    c.in-Remove.is (ap (cluster_of c.args.flights.now) (sym c.in-Remove.is) ∙ c.requires.here) h.flights_are
+    (c.remove.ensures.does Pair m h.reached h.paired h.stands)
+
+pub returns-in-Claim-clause-does : goal.returns-in-Claim-clause-does
+returns-in-Claim-clause-does g c = λ m h.
+    told_here c.args.core.now.own (λ k. event.Claim k c.in-Claim.by c.in-Claim.server c.in-Claim.peer) c.args.event.now c.in-Claim.cluster
+    m (g.V.Vault.contents c.args.own.now) c.args.core.now c.args.flights.now (g.V.Vault.contents c.claim.new.own) c.claim.new.core c.claim.result
+    c.in-Claim.is (ap (cluster_of c.args.flights.now) (sym c.in-Claim.is) ∙ c.requires.here) h.flights_are
+    (c.claim.ensures.does Pair m h.reached h.paired h.stands)
+
+pub returns-in-OldQueues-clause-does : goal.returns-in-OldQueues-clause-does
+returns-in-OldQueues-clause-does g c = λ m h.
+    told_here c.args.core.now.own event.OldQueues c.args.event.now c.in-OldQueues.cluster
+    m (g.V.Vault.contents c.args.own.now) c.args.core.now c.args.flights.now (g.V.Vault.contents c.old_queues.new.own) c.old_queues.new.core c.old_queues.result
+    c.in-OldQueues.is (ap (cluster_of c.args.flights.now) (sym c.in-OldQueues.is) ∙ c.requires.here) h.flights_are
+    (c.old_queues.ensures.does Pair m h.reached h.paired h.stands)
+
+pub returns-in-MigrateBegin-clause-does : goal.returns-in-MigrateBegin-clause-does
+returns-in-MigrateBegin-clause-does g c = λ m h.
+    told_here c.args.core.now.own event.MigrateBegin c.args.event.now c.in-MigrateBegin.cluster
+    m (g.V.Vault.contents c.args.own.now) c.args.core.now c.args.flights.now (g.V.Vault.contents c.migrate_begin.new.own) c.migrate_begin.new.core c.migrate_begin.result
+    c.in-MigrateBegin.is (ap (cluster_of c.args.flights.now) (sym c.in-MigrateBegin.is) ∙ c.requires.here) h.flights_are
+    (c.migrate_begin.ensures.does Pair m h.reached h.paired h.stands)
+
+pub returns-in-Migrate-clause-does : goal.returns-in-Migrate-clause-does
+returns-in-Migrate-clause-does g c = λ m h.
+    told_here c.args.core.now.own (λ k. event.Migrate k c.in-Migrate.peer c.in-Migrate.server) c.args.event.now c.in-Migrate.cluster
+    m (g.V.Vault.contents c.args.own.now) c.args.core.now c.args.flights.now (g.V.Vault.contents c.migrate.new.own) c.migrate.new.core c.migrate.result
+    c.in-Migrate.is (ap (cluster_of c.args.flights.now) (sym c.in-Migrate.is) ∙ c.requires.here) h.flights_are
+    (c.migrate.ensures.does Pair m h.reached h.paired h.stands)
+
+pub returns-in-MigrateEnd-clause-does : goal.returns-in-MigrateEnd-clause-does
+returns-in-MigrateEnd-clause-does g c = λ m h.
+    told_here c.args.core.now.own event.MigrateEnd c.args.event.now c.in-MigrateEnd.cluster
+    m (g.V.Vault.contents c.args.own.now) c.args.core.now c.args.flights.now (g.V.Vault.contents c.migrate_end.new.own) c.migrate_end.new.core c.migrate_end.result
+    c.in-MigrateEnd.is (ap (cluster_of c.args.flights.now) (sym c.in-MigrateEnd.is) ∙ c.requires.here) h.flights_are
+    (c.migrate_end.ensures.does Pair m h.reached h.paired h.stands)
