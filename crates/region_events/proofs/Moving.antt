@@ -17,11 +17,14 @@ use Rattle.rep_model.specs.RegionEvents.{moved}
 use Rattle.rep_model.specs.declared.machine.Side.{Side}
 use Rattle.rep_model.specs.declared.machine.Hosted.{Hosted}
 use Rattle.rep_laws.proofs.Synced.{map_replaced}
+use Rattle.queue_storage.specs.Recorded.{Recorded}
+use Rattle.queue_storage.proofs.Keys.{region_beside}
 use Rattle.cluster_core.specs.declared.parts.ClusterCore.{ClusterCore}
 use Rattle.cluster_core.specs.Memory.{trace_of, parent_of, pending_at, server_at}
 use Rattle.cluster_core.specs.Changes.{setting}
 use Rattle.cluster_core.specs.Stands.{RecordsStand, Stands}
-use Rattle.cluster_core.specs.Texts.{RecordKey, OfTable, OfRegion, OfBarriers, OfServer, OfPeer, place_text, bound_text, list_text, hosted_text, barriers_text, opens_text}
+use Rattle.cluster_core.specs.Texts.{RecordKey, OfTable, OfRegion, OfBarriers, OfServer, OfPeer, OfQueue, OfLast, OfForms, place_text, bound_text, list_text, hosted_text, barriers_text, opens_text}
+use Rattle.cluster_core.proofs.RecordsAside.{recorded_aside}
 use Rattle.cluster_core.proofs.RecordsPut.{Owes, Put, records_put, records_kept}
 use Rattle.cluster_core.proofs.RegionChanged.{with_hosted, found, elsewhere, as_before, changed_stands}
 use Rattle.cluster_core.proofs.Tracing.{same_trace}
@@ -53,6 +56,9 @@ module _ (own : Cluster) (c : Contents) (core : ClusterCore) (side : Side) (stan
   others (OfBarriers k) regions o e = e ∙ as_before side h new there refl (opens_text side.commits) barriers_same k
   others (OfServer t) regions o e = e
   others (OfPeer q) regions o e = e
+  others (OfQueue q n) regions o e = tt
+  others (OfLast q n) regions o e = tt
+  others OfForms regions o e = tt
 
   trace_is : trace_of side.commits side.servers new ≡ trace_of side.commits side.servers h
   trace_is =
@@ -60,14 +66,15 @@ module _ (own : Cluster) (c : Contents) (core : ClusterCore) (side : Side) (stan
       same_trace _ _ _ _ h.flushed _ _ refl pending (ap history gone)
 
   -- the store has the records that are owed then, and its files stay
-  moved_stands : (c' : Contents) → c'.files ≡ c.files → c'.stands wal ≡ true → RecordsStand c' after → Stands own c' (record core { map = change.placed h.region.number p core.map }) (moved_side p h side)
-  moved_stands c' files folder records =
+  moved_stands : (c' : Contents) → c'.files ≡ c.files → c'.stands wal ≡ true → Recorded c' core.queues → RecordsStand c' after → Stands own c' (record core { map = change.placed h.region.number p core.map }) (moved_side p h side)
+  moved_stands c' files folder recorded records =
       changed_stands side h new there refl own c c' core stands p refl next files folder core.index
       (record {
         traces = stands.index.traces ∙ sym (map_replaced (trace_of side.commits side.servers) (is_region r) new h side.regions there trace_is);
         shelves = stands.index.shelves;
         cells = stands.index.cells;
       })
+      recorded
       records
 
   -- its record says the same of both places
@@ -76,7 +83,7 @@ module _ (own : Cluster) (c : Contents) (core : ClusterCore) (side : Side) (stan
       let same : hosted_text new ≡ hosted_text h =
       ap (λ (t : List ℕ). h.region.table.name ++ (codes " " ++ (bound_text h.region.low ++
       (codes " " ++ (bound_text h.region.high ++ (codes " " ++ (t ++ (codes " " ++ list_text (map decimal h.region.parents))))))))) text in
-      moved_stands c refl stands.folder (records_kept c c side after refl stands.records (λ k small o. others k (λ j e. as_before side h new there refl hosted_text same j) o))
+      moved_stands c refl stands.folder stands.recorded (records_kept c c side after refl stands.records (λ k small o. others k (λ j e. as_before side h new there refl hosted_text same j) o))
 
   -- its record is put
   pub region_put : (c' : Contents) → h.region.number < 2 ^ 32 → c' ≡ with_records (setting (OfRegion h.region.number) (hosted_text (moved p h)) ∷ []) c
@@ -84,6 +91,7 @@ module _ (own : Cluster) (c : Contents) (core : ClusterCore) (side : Side) (stan
   region_put c' few put =
       let puts : List Put = record { key = OfRegion r; value = Some (hosted_text new) } ∷ [] in
       moved_stands c' (ap (λ (d : Contents). d.files) put ∙ files_records _ c) (ap (λ (d : Contents). d.stands wal) put ∙ (ap (λ (f : List ℕ → Bool). f wal) (stands_records _ c) ∙ stands.folder))
+      (recorded_aside c c' core.queues _ put (region_beside (decimal r), tt) stands.recorded)
       (records_put c c' side after puts (ap (λ (d : Contents). d.records) put ∙ records_records _ c) stands.records
       (record { small = few; owed = sym (ap (option_map hosted_text) (found side h new there refl)) }, tt)
       (λ k small aside o. others k (λ j e. sym (ap (option_map hosted_text) (elsewhere side h new there refl j (λ q. aside.0 (ap OfRegion q ∙ sym e))))) o))

@@ -1,5 +1,6 @@
 -- A region that begins to open.
 use Rattle.std.proofs.Common.{ℕ, zero, suc, ◌+◌, ◌-◌, ◌<◌, ◌≤◌, ◌^◌, ◌≡◌, ◌==◌, cond, Bool, true, false, List, [], ◌∷◌, find, length, slice_get, Option, Some, None, refl, ap, sym, ◌∙◌, subst, eqb-true, ne_eqb}
+use Rattle.std.specs.Fmt.{decimal}
 use Rattle.std.specs.List.{AllByRecursion}
 use Rattle.std.specs.Prelude.{IsSome}
 use Rattle.std.specs.Option.{option_map, ForSome}
@@ -39,20 +40,22 @@ use Rattle.rep_model.specs.declared.machine.Pending.{Pending}
 use Rattle.rep_laws.proofs.Lists.{In, all_in, All_weaker, All_found, found_in, found_passes}
 use Rattle.rep_laws.proofs.Citing.{passes}
 use Rattle.rep_laws.proofs.CitedLogs.{opens_are_reached}
+use Rattle.queue_storage.proofs.Keys.{region_beside, barriers_beside}
 use Rattle.cluster_core.specs.declared.parts.ClusterCore.{ClusterCore}
 use Rattle.cluster_core.specs.declared.parts.Station.{Station}
 use Rattle.cluster_core.specs.declared.parts.Trace.{Trace}
-use Rattle.cluster_core.specs.Texts.{RecordKey, OfTable, OfRegion, OfBarriers, OfServer, OfPeer, hosted_text, opens_text}
+use Rattle.cluster_core.specs.Texts.{RecordKey, OfTable, OfRegion, OfBarriers, OfServer, OfPeer, OfQueue, OfLast, OfForms, hosted_text, opens_text}
 use Rattle.cluster_core.specs.Memory.{map_region, trace_of, history_of, pending_at, server_at}
 use Rattle.cluster_core.specs.Absorbing.{change_at}
 use Rattle.cluster_core.specs.Orderly.{AreNumbered, ArePlaced, IsPlaced}
 use Rattle.cluster_core.specs.Lookups.{HasStation}
-use Rattle.cluster_core.specs.Stands.{number_of, Stands}
+use Rattle.cluster_core.specs.Stands.{IsSmall, Stands}
 use Rattle.cluster_core.specs.Does.{Does, Reached}
 use Rattle.cluster_core.proofs.Asking.{failed_one}
 use Rattle.cluster_core.proofs.Lookups.{region_of_map, mapped_some}
 use Rattle.cluster_core.proofs.Tracing.{same_trace, pending_was}
 use Rattle.cluster_core.proofs.Reaching.{orderly}
+use Rattle.cluster_core.proofs.RecordsAside.{recorded_aside}
 use Rattle.cluster_core.proofs.RecordsPut.{Owes, Put, IsDue, IsAside, records_put}
 use Rattle.cluster_core.proofs.RegionChanged.{with_hosted, found, elsewhere, traces_changed, changed_stands, traced, within}
 use Rattle.cluster_core.proofs.Simple.{does_with, does_nothing}
@@ -92,12 +95,15 @@ module _ (own : Cluster) (c c' : Contents) (core : ClusterCore) (side : Side) (s
     (record { small = few; owed = sym (ap (option_map (opens_text side.commits)) (found side h new there refl)) }, tt),
   )
 
-  others : (k : RecordKey) → number_of k < 2 ^ 32 → IsAside puts k → (o : Option (List ℕ)) → Owes side k o → Owes after k o
+  others : (k : RecordKey) → IsSmall k → IsAside puts k → (o : Option (List ℕ)) → Owes side k o → Owes after k o
   others (OfTable t) small aside o e = e
   others (OfRegion k) small aside o e = e ∙ sym (ap (option_map hosted_text) (elsewhere side h new there refl k (λ q. aside.0 (ap OfRegion q))))
   others (OfBarriers k) small aside o e = e ∙ sym (ap (option_map (opens_text side.commits)) (elsewhere side h new there refl k (λ q. aside.1.0 (ap OfBarriers q))))
   others (OfServer t) small aside o e = e
   others (OfPeer p) small aside o e = e
+  others (OfQueue p n) small aside o e = tt
+  others (OfLast p n) small aside o e = tt
+  others OfForms small aside o e = tt
 
   trace_is : opened_trace n (trace_of side.commits side.servers h) ≡ trace_of side.commits side.servers new
   unfolding given
@@ -115,6 +121,7 @@ module _ (own : Cluster) (c c' : Contents) (core : ClusterCore) (side : Side) (s
         shelves = stands.index.shelves;
         cells = stands.index.cells;
       })
+      (recorded_aside c c' core.queues _ put (region_beside (decimal r), (barriers_beside (decimal r), tt)) stands.recorded)
       (records_put c c' side after puts (ap (λ (d : Contents). d.records) put ∙ records_records _ c) stands.records due others)
 
 -- ---- why it doesn't begin

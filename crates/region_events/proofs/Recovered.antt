@@ -1,5 +1,5 @@
 -- A lost region that is recovered.
-use Rattle.std.proofs.Common.{ℕ, ◌+◌, ◌-◌, ◌<◌, ◌≡◌, ◌^◌, cond, Bool, true, false, List, [], ◌∷◌, map, find, length, slice_get, Option, Some, None, refl, ap, sym, ◌∙◌, subst, eqb-true}
+use Rattle.std.proofs.Common.{decimal, ℕ, ◌+◌, ◌-◌, ◌<◌, ◌≡◌, ◌^◌, cond, Bool, true, false, List, [], ◌∷◌, map, find, length, slice_get, Option, Some, None, refl, ap, sym, ◌∙◌, subst, eqb-true}
 use Rattle.std.specs.Prelude.{All, IsSome}
 use Rattle.std.specs.List.{AllByRecursion, list_any}
 use Rattle.std.specs.Option.{option_map}
@@ -40,17 +40,19 @@ use Rattle.rep_model.specs.declared.machine.Pending.{Pending}
 use Rattle.rep_model.specs.declared.machine.Server.{Server}
 use Rattle.rep_laws.proofs.Lists.{found_in, found_passes}
 use Rattle.rep_laws.proofs.Citing.{passes, is_failed}
+use Rattle.queue_storage.proofs.Keys.{region_beside}
 use Rattle.cluster_core.specs.declared.parts.ClusterCore.{ClusterCore}
 use Rattle.cluster_core.specs.declared.parts.Trace.{Trace}
-use Rattle.cluster_core.specs.Texts.{RecordKey, OfTable, OfRegion, OfBarriers, OfServer, OfPeer, hosted_text, barriers_text, opens_text}
+use Rattle.cluster_core.specs.Texts.{RecordKey, OfTable, OfRegion, OfBarriers, OfServer, OfPeer, OfQueue, OfLast, OfForms, hosted_text, barriers_text, opens_text}
 use Rattle.cluster_core.specs.Logs.{Current}
 use Rattle.cluster_core.specs.Memory.{map_region, trace_of, parent_of, pending_at, server_at}
 use Rattle.cluster_core.specs.Absorbing.{change_at}
 use Rattle.cluster_core.specs.Orderly.{AreNumbered}
-use Rattle.cluster_core.specs.Stands.{number_of, Stands, is_station}
+use Rattle.cluster_core.specs.Stands.{IsSmall, Stands, is_station}
 use Rattle.cluster_core.specs.Does.{Does, Reached}
 use Rattle.cluster_core.proofs.Lookups.{region_of_map, mapped_some}
 use Rattle.cluster_core.proofs.Reaching.{orderly}
+use Rattle.cluster_core.proofs.RecordsAside.{recorded_aside}
 use Rattle.cluster_core.proofs.RecordsPut.{Owes, Put, IsDue, IsAside, records_put}
 use Rattle.cluster_core.proofs.RegionChanged.{with_hosted, found, elsewhere, as_before, traces_changed, changed_stands, traced, within}
 use Rattle.cluster_core.proofs.Simple.{does_with, does_nothing}
@@ -88,12 +90,15 @@ module _ (own : Cluster) (c c' : Contents) (core : ClusterCore) (side : Side) (s
   due : AllByRecursion (IsDue after) puts
   due = (record { small = few; owed = sym (ap (option_map hosted_text) (found side h new there refl)) }, tt)
 
-  others : (k : RecordKey) → number_of k < 2 ^ 32 → IsAside puts k → (o : Option (List ℕ)) → Owes side k o → Owes after k o
+  others : (k : RecordKey) → IsSmall k → IsAside puts k → (o : Option (List ℕ)) → Owes side k o → Owes after k o
   others (OfTable t) small aside o e = e
   others (OfRegion k) small aside o e = e ∙ sym (ap (option_map hosted_text) (elsewhere side h new there refl k (λ q. aside.0 (ap OfRegion q))))
   others (OfBarriers k) small aside o e = e ∙ as_before side h new there refl (opens_text side.commits) barriers_same k
   others (OfServer t) small aside o e = e
   others (OfPeer p) small aside o e = e
+  others (OfQueue p n) small aside o e = tt
+  others (OfLast p n) small aside o e = tt
+  others OfForms small aside o e = tt
 
   trace_is : recovered_trace (trace_of side.commits side.servers h) ≡ trace_of side.commits side.servers new
   unfolding given
@@ -118,6 +123,7 @@ module _ (own : Cluster) (c c' : Contents) (core : ClusterCore) (side : Side) (s
         shelves = stands.index.shelves;
         cells = stands.index.cells;
       })
+      (recorded_aside c c' core.queues _ put (region_beside (decimal r), tt) stands.recorded)
       (records_put c c' side after puts (ap (λ (d : Contents). d.records) put ∙ records_records _ c) stands.records due others)
 
 -- ---- why it isn't recovered

@@ -1,5 +1,6 @@
 -- A table and its first region.
 use Rattle.std.proofs.Common.{ℕ, suc, ◌+◌, ◌<◌, ◌≤◌, ◌^◌, ◌≡◌, ◌==◌, cond, Bool, true, false, List, [], ◌∷◌, ◌++◌, map, find, length, slice_get, Option, Some, None, is_some, refl, ap, sym, ◌∙◌, subst, arith, add-one, eq-eqb, ne_eqb}
+use Rattle.std.specs.Fmt.{decimal}
 use Rattle.std.specs.List.{AllByRecursion}
 use Rattle.std.specs.Str.{bytes_eq}
 use Rattle.std.specs.Option.{option_map}
@@ -40,19 +41,21 @@ use Rattle.rep_laws.proofs.Lists.{In, all_in, All_weaker}
 use Rattle.rep_laws.proofs.Finding.{find_first, find_aside}
 use Rattle.rep_laws.proofs.Citing.{passes}
 use Rattle.rep_laws.proofs.CitedMore.{regions_are_known, written_is_known}
+use Rattle.queue_storage.proofs.Keys.{table_beside, region_beside, barriers_beside}
 use Rattle.cluster_core.specs.declared.parts.ClusterCore.{ClusterCore}
 use Rattle.cluster_core.specs.declared.parts.Trace.{Trace}
 use Rattle.cluster_core.specs.declared.parts.TableCells.{TableCells}
-use Rattle.cluster_core.specs.Texts.{RecordKey, OfTable, OfRegion, OfBarriers, OfServer, OfPeer, family_text, list_text, region_text, barriers_text, table_text, hosted_text, opens_text}
+use Rattle.cluster_core.specs.Texts.{RecordKey, OfTable, OfRegion, OfBarriers, OfServer, OfPeer, OfQueue, OfLast, OfForms, family_text, list_text, region_text, barriers_text, table_text, hosted_text, opens_text}
 use Rattle.cluster_core.specs.Changes.{setting}
 use Rattle.cluster_core.specs.Memory.{map_of, map_table, map_region, trace_of, table_cells, IndexStands}
-use Rattle.cluster_core.specs.Stands.{number_of, Stands}
+use Rattle.cluster_core.specs.Stands.{IsSmall, Stands}
 use Rattle.cluster_core.specs.Does.{Does, Reached}
 use Rattle.cluster_core.proofs.Asking.{failed_one}
 use Rattle.cluster_core.proofs.Reaching.{orderly}
+use Rattle.cluster_core.proofs.RecordsAside.{recorded_aside}
 use Rattle.cluster_core.proofs.RecordsPut.{Owes, Put, IsDue, IsAside, change_of, records_put}
 use Rattle.cluster_core.proofs.Simple.{does_with, does_nothing}
-use Rattle.cluster_core.proofs.Staying.{servers_kept, lines_kept}
+use Rattle.cluster_core.proofs.Staying.{is_same_server, servers_kept, queues_beside}
 use Rattle.region_events.specs.Effects.{first_trace, no_cells, with_table}
 
 -- the side with the table and its first region
@@ -111,13 +114,16 @@ module _ (own : Cluster) (c c' : Contents) (core : ClusterCore) (side : Side) (n
     ),
   )
 
-  others : (k : RecordKey) → number_of k < 2 ^ 32 → IsAside puts k → (o : Option (List ℕ)) → Owes side k o → Owes after k o
+  others : (k : RecordKey) → IsSmall k → IsAside puts k → (o : Option (List ℕ)) → Owes side k o → Owes after k o
   others (OfTable t) small aside o h = h ∙ sym (ap (option_map table_text) (find_aside (is_named t) (new_table name families) side.tables (other_text name t (λ e. aside.0 (ap OfTable e)))))
   others (OfRegion r) small aside o h = h ∙ sym (ap (option_map hosted_text) (find_aside (is_region r) fresh side.regions (ne_eqb (next_region side) r (λ e. aside.1.0 (ap OfRegion e)))))
   others (OfBarriers r) small aside o h = h ∙ sym (ap (option_map (opens_text side.commits))
       (find_aside (is_region r) fresh side.regions (ne_eqb (next_region side) r (λ e. aside.1.1.0 (ap OfBarriers e)))))
   others (OfServer s) small aside o h = h
   others (OfPeer p) small aside o h = h
+  others (OfQueue p n) small aside o h = tt
+  others (OfLast p n) small aside o h = tt
+  others OfForms small aside o h = tt
 
   trace_is : trace_of side.commits side.servers fresh ≡ first_trace
   unfolding given
@@ -148,10 +154,10 @@ module _ (own : Cluster) (c c' : Contents) (core : ClusterCore) (side : Side) (n
           ∙ sym (map-append (table_cells side) side.tables (new_table name families ∷ [])));
     };
     servers = servers_kept c c' side after core.stations (ap (λ (d : Contents). d.files) put ∙ files_records _ c) refl refl stands.servers;
-    queues = record { peers = stands.queues.peers; plain = stands.queues.plain; queues = stands.queues.queues; at = lines_kept side after core.lines refl (λ _ _ h. h) stands.queues.at };
+    queues = queues_beside core (with_table name families core) side after refl refl refl refl refl refl (is_same_server side.servers) stands.queues;
+    recorded = recorded_aside c c' core.queues _ put (table_beside name, (region_beside (decimal n), (barriers_beside (decimal n), tt))) stands.recorded;
     records = records_put c c' side after puts (ap (λ (d : Contents). d.records) put ∙ (records_records _ c ∙ renumbered)) stands.records due others;
     framed = stands.framed;
-    forms = stands.forms;
     link = stands.link;
   }
 
