@@ -97,7 +97,7 @@ logged_stays s log q =
 unlisted : (s log : ℕ) (q : QueueRecord) → lists_logs s (logged s log q) ≡ false → queue_text q ≡ queue_text (logged s log q)
 unlisted s log q unlike =
     (elim (q.server == s) as (λ (b : Bool). (q.server == s) ≡ b → ((cond b (record q { log = log }) q).server == s && is_listed (cond b (record q { log = log }) q).form) ≡ false
-        → queue_text q ≡ queue_text (cond b (record q { log = log }) q)) [
+    → queue_text q ≡ queue_text (cond b (record q { log = log }) q)) [
       | true ↦ λ t h. grouped_text q log (ap (λ b. b && is_listed q.form) (sym t) ∙ h)
       | false ↦ λ t h. refl
     ]) refl unlike

@@ -94,9 +94,11 @@ at_map f p s (x ∷ xs) stays =
 
 pub apart_map : (f : QueueRecord → QueueRecord) (xs : List QueueRecord) → Stays f → AreApart xs → AreApart (map f xs)
 apart_map f [] stays apart = tt
-apart_map f (x ∷ xs) stays apart =
-    (subst (λ p. queue_at p (f x).server (map f xs) ≡ None) (sym (stays x).peer)
-    (subst (λ s. queue_at x.peer s (map f xs) ≡ None) (sym (stays x).server) (at_map f x.peer x.server xs stays ∙ ap (option_map f) apart.0)), apart_map f xs stays apart.1)
+apart_map f (x ∷ xs) stays apart = (
+  subst (λ p. queue_at p (f x).server (map f xs) ≡ None) (sym (stays x).peer)
+      (subst (λ s. queue_at x.peer s (map f xs) ≡ None) (sym (stays x).server) (at_map f x.peer x.server xs stays ∙ ap (option_map f) apart.0)),
+  apart_map f xs stays apart.1,
+)
 
 -- ---- some queues go
 
@@ -110,13 +112,13 @@ at_filter f p s (x ∷ xs) apart =
     let rest : queue_at p s (filter f xs) ≡ kept f (queue_at p s xs) = at_filter f p s xs apart.1 in
     (elim (f x) as (λ (b : Bool). f x ≡ b → queue_at p s (cond b (x ∷ filter f xs) (filter f xs)) ≡ kept f (cond (is_queue p s x) (Some x) (queue_at p s xs))) [
       | true ↦ λ keep. (elim (is_queue p s x) as (λ (b : Bool). cond b (Some x) (queue_at p s (filter f xs)) ≡ kept f (cond b (Some x) (queue_at p s xs))) [
-          | true ↦ sym (ap (λ t. cond t (Some x) None) keep)
-          | false ↦ rest
-        ])
+        | true ↦ sym (ap (λ t. cond t (Some x) None) keep)
+        | false ↦ rest
+      ])
       | false ↦ λ keep. (elim (is_queue p s x) as (λ (b : Bool). is_queue p s x ≡ b → queue_at p s (filter f xs) ≡ kept f (cond b (Some x) (queue_at p s xs))) [
-          | true ↦ λ t. rest ∙ (ap (kept f) (later_absent p s x xs apart (at_of p s x t)) ∙ sym (ap (λ t. cond t (Some x) None) keep))
-          | false ↦ λ t. rest
-        ]) refl
+        | true ↦ λ t. rest ∙ (ap (kept f) (later_absent p s x xs apart (at_of p s x t)) ∙ sym (ap (λ t. cond t (Some x) None) keep))
+        | false ↦ λ t. rest
+      ]) refl
     ]) refl
 
 pub apart_filter : (f : QueueRecord → Bool) (xs : List QueueRecord) → AreApart xs → AreApart (filter f xs)
@@ -154,7 +156,7 @@ apart_replace p s (x ∷ xs) y h apart =
       | true ↦ λ t. (later_absent y.peer y.server x xs apart (same_place p s y x h (at_of p s x t)), apart.1)
       | false ↦ λ t.
           let unlike : is_queue x.peer x.server y ≡ false = false_from_ne_true (is_queue x.peer x.server y) (λ e.
-              let g = at_of x.peer x.server y e in
-              true≢false (sym (of_at p s x (record { peer = sym g.peer ∙ h.peer; server = sym g.server ∙ h.server })) ∙ t)) in
+          let g = at_of x.peer x.server y e in
+          true≢false (sym (of_at p s x (record { peer = sym g.peer ∙ h.peer; server = sym g.server ∙ h.server })) ∙ t)) in
           (at_other p s x.peer x.server xs y h unlike ∙ apart.0, apart_replace p s xs y h apart.1)
     ]) refl

@@ -44,7 +44,7 @@ queues_put f p s [] r m n apart = refl
 queues_put f p s (x ∷ xs) r m n apart =
     queues_put f p s xs (set_record (queue_key x.peer x.server) (f x) r) m n apart.1 ∙
     (elim (is_queue p s x) as (λ (b : Bool). is_queue p s x ≡ b
-        → told f (queue_at p s xs) (set_record (queue_key x.peer x.server) (f x) r (queue_key p s)) ≡ told f (cond b (Some x) (queue_at p s xs)) (r (queue_key p s))) [
+    → told f (queue_at p s xs) (set_record (queue_key x.peer x.server) (f x) r (queue_key p s)) ≡ told f (cond b (Some x) (queue_at p s xs)) (r (queue_key p s))) [
       | true ↦ λ t.
           let at = at_of p s x t in
           ap (λ o. told f o (set_record (queue_key x.peer x.server) (f x) r (queue_key p s))) (later_absent p s x xs apart at)

@@ -1,5 +1,5 @@
 // What a call makes of one queue.
-ghost use Rattle.std.specs.Prelude.{◌≡◌, ◌<◌, IsNone, IfSome, Some, length, slice_set};
+ghost use Rattle.std.specs.Prelude.{◌≡◌, ◌<◌, IfSome, length, position, slice_set};
 ghost use Rattle.std.specs.Option.{option_map};
 ghost use Rattle.rep_model.specs.FormEvents.{is_listed};
 ghost use Rattle.rep_model.specs.Keyed.{replace};
@@ -49,6 +49,16 @@ fn turned(queue: &QueueRecord, turn: &Turn) -> QueueRecord
     next
 }
 
+// The queue's place among the others.
+fn place_of(queues: &Items<QueueRecord>, peer: PeerId, server: ServerId) -> Option<usize>
+    ensures { result ≡ position (is_queue peer server) queues.now }
+{
+    queues
+        .as_slice()
+        .iter()
+        .position(|queue| queue.peer == peer && queue.server == server)
+}
+
 /// The queue as this change makes it. None exactly where there is no such queue.
 pub fn find_turned(
     queues: &Items<QueueRecord>,
@@ -60,10 +70,7 @@ pub fn find_turned(
     ensures within { IfSome result (λ t. t.at < length queues.now) }
     ensures place { IfSome result (λ t. slice_set queues.now t.at t.queue ≡ replace (is_queue peer server) t.queue queues.now) }
 {
-    let at = queues
-        .as_slice()
-        .iter()
-        .position(|queue| queue.peer == peer && queue.server == server)?;
+    let at = place_of(queues, peer, server)?;
     Some(NextQueue {
         at,
         queue: turned(&queues.as_slice()[at], turn),
