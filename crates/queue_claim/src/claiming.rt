@@ -4,7 +4,8 @@ ghost use Rattle.rep_types.specs.declared.state.Call.TheVariants.{Put};
 ghost use Rattle.rep_vault.specs.Contents.{with_records};
 ghost use Rattle.wal_roll.specs.Blamed.{IsFault};
 ghost use Rattle.rep_model.specs.Keyed.{replace};
-ghost use Rattle.queue_storage.specs.Queues.{is_queue, queue_at, owned, IsSame};
+ghost use Rattle.queue_storage.specs.Queues.{is_queue, queue_at, owned};
+ghost use Rattle.queue_storage.specs.Recorded.{Recorded};
 ghost use Rattle.queue_storage.specs.Texts.{queue_change};
 ghost use Rattle.queue_claim.specs.declared.claiming.ClaimError.TheVariants.{StoreFault};
 ghost use Rattle.queue_claim.specs.Claims.{is_live, refusal, Answers};
@@ -60,7 +61,8 @@ pub fn may_claim(
     Ok(())
 }
 
-/// A live server becomes the owner of a queue whose owner is dead: one put of its record. After an error nothing is changed.
+/// A live server becomes the owner of a queue whose owner is dead, and its flight is over: one put of its record. After an error
+/// nothing is changed.
 pub fn claim<V: Vault>(
     vault: &mut V,
     store: &mut QueueStore,
@@ -71,9 +73,12 @@ pub fn claim<V: Vault>(
 ) -> Result<(), ClaimError>
     ensures refused { IfSome (refusal by live.now (queue_at peer server store.old.queues)) (λ e. result ≡ Err e) }
     ensures queues { OnOk result (IfSome (queue_at peer server store.old.queues) (λ q. store.new.queues ≡ replace (is_queue peer server) (owned by q) store.old.queues)) }
+    ensures ids { store.new.ids ≡ store.old.ids }
+    ensures forms { store.new.forms ≡ store.old.forms }
     ensures records { OnOk result (IfSome (queue_at peer server store.old.queues) (λ q. V.contents vault.new
         ≡ with_records (queue_change (owned by q) ∷ []) (V.contents vault.old))) }
-    ensures err { OnErr result (IsSame store.old store.new) }
+    ensures recorded { OnOk result (Recorded (V.contents vault.old) store.old → Recorded (V.contents vault.new) store.new) }
+    ensures err { OnErr result (store.new ≡ store.old) }
     ensures stays { OnErr result (V.contents vault.new ≡ V.contents vault.old) }
     ensures kept { (k : Call) → (V.tally vault.old).faults k ≤ (V.tally vault.new).faults k }
     ensures told { (n : ℕ) → result ≡ Err (StoreFault n) → IsFault Put n (V.tally vault.old) (V.tally vault.new) }

@@ -1,4 +1,1 @@
-mod Found
-mod Knowing
 mod Logs
-mod Peers

@@ -1,29 +1,26 @@
--- The records of queues, last pushed ids and forms in a store are those of memory.
-use Rattle.std.specs.Prelude.{ℕ, ◌<◌, ◌≤◌, ◌≡◌, ◌^◌, List, None}
+-- The records of a store say what stands in memory.
+use Rattle.std.specs.Prelude.{ℕ, ◌≡◌, ◌≢◌, ◌<◌, ◌^◌, List}
 use Rattle.std.specs.List.{AllByRecursion}
 use Rattle.std.specs.Option.{option_map}
 use Rattle.rep_vault.specs.Contents.{Contents}
 use Rattle.rep_vault.specs.declared.store.Change.{Change}
-use Rattle.queue_storage.specs.declared.record.QueueRecord.{QueueRecord}
-use Rattle.queue_storage.specs.Queues.{Storage, Unique, queue_at, last_pushed}
-use Rattle.queue_storage.specs.Texts.{queue_key, last_key, forms_key, queue_text, last_text, forms_text}
+use Rattle.queue_storage.specs.Ids.{last_pushed}
+use Rattle.queue_storage.specs.Queues.{Storage, queue_at, AreApart}
+use Rattle.queue_storage.specs.Texts.{queue_key, queue_text, last_key, last_text, forms_key, forms_text}
 
+-- each queue and each last pushed id has its record, and there is no other of them
 pub record Recorded (c : Contents) (s : Storage) : Type 0 where
-  pub unique : Unique s.queues
-  pub queues : (p n : ℕ) → p < 2 ^ 32 → n < 2 ^ 32 → c.records (queue_key p n) ≡ option_map queue_text (queue_at p n s.queues)
-  pub last : (p r : ℕ) → 1 ≤ p → p < 2 ^ 32 → r < 2 ^ 32 → c.records (last_key p r) ≡ last_text (last_pushed p r s.ids)
+  pub queues : (p q : ℕ) → p < 2 ^ 32 → q < 2 ^ 32 → c.records (queue_key p q) ≡ option_map queue_text (queue_at p q s.queues)
+  pub ids : (p r : ℕ) → p < 2 ^ 32 → r < 2 ^ 32 → c.records (last_key p r) ≡ last_text (last_pushed p r s.ids)
   pub forms : c.records forms_key ≡ forms_text s.forms
+  pub apart : AreApart s.queues
 
--- the record is none of these
+-- the key is that of no queue, of no last pushed id and not that of the forms
 pub record IsBeside (key : List ℕ) : Type 0 where
-  pub queue : (p n : ℕ) → key ≡ queue_key p n → ⊥
-  pub last : (p r : ℕ) → key ≡ last_key p r → ⊥
-  pub forms : key ≡ forms_key → ⊥
+  pub queue : (p q : ℕ) → key ≢ queue_key p q
+  pub last : (p r : ℕ) → key ≢ last_key p r
+  pub forms : key ≢ forms_key
 
+-- the changes are of other records
 abbrev pub AreBeside : List Change → Type 0
-AreBeside changes = AllByRecursion (λ (x : Change). IsBeside x.key) changes
-
--- queues that may stand behind others
-pub record AreNew (new old : List QueueRecord) : Type 0 where
-  pub unique : Unique new
-  pub apart : AllByRecursion (λ (q : QueueRecord). queue_at q.peer q.server old ≡ None) new
+AreBeside changes = AllByRecursion (λ (change : Change). IsBeside change.key) changes

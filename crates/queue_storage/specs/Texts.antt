@@ -1,5 +1,5 @@
--- The records of queues and of last pushed ids. A value is one line of words with single spaces.
-use Rattle.std.specs.Prelude.{ℕ, ◌+◌, ◌-◌, zero, suc, List, [], ◌++◌, Some, None, codes}
+-- The records of queues, of last pushed ids and of forms. A value is one line of words with single spaces.
+use Rattle.std.specs.Prelude.{ℕ, ◌+◌, ◌-◌, ◌==◌, zero, suc, List, [], ◌++◌, Option, Some, None, codes, if◌then◌else◌}
 use Rattle.std.specs.Fmt.{decimal}
 use Rattle.rep_types.specs.declared.state.Place.{Place}
 use Rattle.rep_types.specs.declared.state.QueueForm.{QueueForm}
@@ -39,15 +39,27 @@ words Grouped owner start place log =
 abbrev pub queue_text : QueueRecord → List ℕ
 queue_text q = words q.form q.owner q.start q.place q.log
 
--- the record of a queue, and of a last pushed id
+-- the record of a queue
 abbrev pub queue_change : QueueRecord → Change
 queue_change q = record { key = queue_key q.peer q.server; value = Some (queue_text q) }
 
-abbrev pub last_change : ℕ → LastId → Change
-last_change p x = record { key = last_key p x.region; value = Some (decimal x.seq) }
+-- for an id of 0 no record stands
+abbrev pub last_text : ℕ → Option (List ℕ)
+last_text n = if n == 0 then None else Some (decimal n)
 
--- the record of the forms of a cluster's queue records; where all are grouped from the beginning there is none
+-- the record of a last pushed id
+abbrev pub last_change : ℕ → LastId → Change
+last_change p x = record { key = last_key p x.region; value = last_text x.seq }
+
+abbrev pub forms_key : List ℕ
+forms_key = codes "forms"
+
+-- where all queues are grouped from the beginning no record stands
+abbrev pub forms_text : QueueForms → Option (List ℕ)
+forms_text forms.Old = Some (codes "old")
+forms_text forms.Mixed = Some (codes "mixed")
+forms_text forms.New = None
+
+-- the record of the forms of a cluster's queues
 abbrev pub forms_change : QueueForms → Change
-forms_change forms.Old = record { key = codes "forms"; value = Some (codes "old") }
-forms_change forms.Mixed = record { key = codes "forms"; value = Some (codes "mixed") }
-forms_change forms.New = record { key = codes "forms"; value = None }
+forms_change f = record { key = forms_key; value = forms_text f }

@@ -5,7 +5,8 @@
 //! |---|---|
 //! | `queue/P/S`, listed | owner, log and offset of the start, offset in the first log that isn't finished, the logs that aren't, with commas |
 //! | `queue/P/S`, grouped | the word `group`, owner, log and offset of the start, log and offset of the place |
-//! | `last/P/R` | the last pushed id of region R |
+//! | `last/P/R` | the last pushed id of region R; no record where that is 0 |
+//! | `forms` | `old` or `mixed`; no record where all queues are grouped from the beginning |
 //!
 //! A value is one line of words with single spaces, with numbers in decimal. P is a peer, S a server.
 #![tactic(auto)]
@@ -16,6 +17,7 @@ mod error;
 mod ids;
 mod record;
 mod store;
+mod turns;
 
 pub use error::QueueError;
 pub use record::QueueRecord;

@@ -1,12 +1,15 @@
-ghost use Rattle.std.specs.Prelude.{◌≡◌, ◌≢◌, ◌-◌, [], ◌∷◌, IfOk, OnOk, OnErr, position, slice_get, Some, Err};
+ghost use Rattle.std.specs.Prelude.{◌≡◌, ◌≢◌, [], ◌∷◌, ℕ, IfOk, OnOk, OnErr, Err};
 ghost use Rattle.std.specs.Option.{option_copied, option_map};
 ghost use Rattle.rep_types.specs.declared.state.QueueForms.TheVariants.{New};
 ghost use Rattle.rep_vault.specs.Contents.{with_records};
+ghost use Rattle.last_ids.specs.Ids.{last_of};
 ghost use Rattle.queue_storage.specs.declared.error.QueueError.TheVariants.{NoQueue};
 ghost use Rattle.queue_storage.specs.declared.record.QueueRecord.{QueueRecord};
 ghost use Rattle.queue_storage.specs.Calls.{Tells};
-ghost use Rattle.queue_storage.specs.Queues.{is_queue, queue_at, last_pushed};
+ghost use Rattle.queue_storage.specs.Ids.{last_pushed};
+ghost use Rattle.queue_storage.specs.Queues.{queue_at};
 
+use crate::ids::of_peer;
 use crate::{QueueError, QueueRecord};
 use last_ids::LastIds;
 use rep_types::{Items, Memory, PeerId, Place, QueueForms, RegionId, ServerId};
@@ -14,9 +17,8 @@ use rep_vault::{Change, Tried, Vault, try_put};
 use std::alloc::Global;
 use std::marker::Model;
 
-/// The queues of a cluster with the places of their records, and the last pushed ids of its peers: one map from queues to owner,
-/// start and place, and one from peers and regions to ids. What stands in a vault are their records, each in the form that its
-/// queue has.
+/// The queues of a cluster and the last pushed ids of its peers. What stands in a vault are their records, that of a queue in
+/// the form that the queue has, and none for an id of 0.
 #[derive(Drop)]
 pub struct QueueStore {
     pub(crate) alloc: Global,
@@ -27,14 +29,15 @@ pub struct QueueStore {
 }
 
 impl Model for QueueStore {
-    ghost use Rattle.std.specs.Prelude.{◌≡◌, length};
+    ghost use Rattle.std.specs.Prelude.{map};
+    ghost use Rattle.queue_storage.specs.Ids.{counting, AreOfPeers};
     ghost use Rattle.queue_storage.specs.Queues.{Storage};
 
     ghost Value = { Storage };
 
-    ghost view = { λ s. record { queues = s.queues; ids = s.ids; forms = s.forms } };
+    ghost view = { λ s. record { queues = s.queues; ids = map counting s.ids; forms = s.forms } };
 
-    ghost invariant = { λ s. length s.ids ≡ 4 };
+    ghost invariant = { λ s. AreOfPeers s.ids };
 }
 
 fn no_ids(alloc: Global) -> Result<Items<LastIds>, Memory>
@@ -46,16 +49,6 @@ fn no_ids(alloc: Global) -> Result<Items<LastIds>, Memory>
     ids.push(LastIds::new(alloc))?;
     ids.push(LastIds::new(alloc))?;
     Ok(ids)
-}
-
-/// The place of a peer's queue for the logs of a server.
-pub fn place_of(queues: &Items<QueueRecord>, peer: PeerId, server: ServerId) -> Option<usize>
-    ensures { result ≡ position (is_queue peer server) queues.now }
-{
-    queues
-        .as_slice()
-        .iter()
-        .position(|queue| queue.peer == peer && queue.server == server)
 }
 
 /// One put of all these records, or none.
@@ -113,13 +106,12 @@ impl QueueStore {
 
     /// The last pushed ids of a peer, by region.
     pub fn last_ids(&self, peer: PeerId) -> &LastIds
-        ensures { slice_get self.now.ids (peer - 1) ≡ Some result.now }
+        ensures { (r : ℕ) → last_of r result.now ≡ last_pushed peer r self.now.ids }
     {
-        &self.ids.as_slice()[peer.number() as usize - 1]
+        of_peer(&self.ids, peer)
     }
 
     /// The last pushed id of a peer's region, 0 where there is none.
-    #[tactic(auto, unfolding(rep_model::specs::Keyed::given))]
     pub fn last_pushed(&self, peer: PeerId, region: RegionId) -> u64
         ensures { result ≡ last_pushed peer region self.now.ids }
     {
