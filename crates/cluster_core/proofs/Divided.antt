@@ -1,5 +1,5 @@
 -- Places that divide a server's commits, as more commits come.
-use Rattle.std.proofs.Common.{ℕ, suc, ◌+◌, ◌<◌, ◌≤◌, ◌≡◌, ◌==◌, ◌&&◌, ◌⊎◌, inl, inr, List, [], ◌∷◌, ◌++◌, filter, take, drop, length, refl, ap, sym, ◌∙◌, subst, arith, append-nil, length-append, ne_eqb, eq-eqb}
+use Rattle.std.proofs.Common.{ℕ, ◌+◌, ◌<◌, ◌≤◌, ◌≡◌, ◌==◌, ◌&&◌, ◌⊎◌, inl, inr, Bool, List, [], ◌∷◌, ◌++◌, filter, take, drop, length, refl, ap, sym, ◌∙◌, subst, arith, append-nil, length-append, ne_eqb, eq-eqb}
 use Rattle.std.specs.List.{AllByRecursion}
 use Rattle.std.proofs.lemmas.Bool.{and_parts, cases_eq}
 use Rattle.std.proofs.lemmas.List.{take-append-drop, take-append-le, drop-append-le}
