@@ -110,8 +110,11 @@ module _ (own : Cluster) (c : Contents) (core : ClusterCore) (m : Machine) (k : 
       let self : list_any (is_site own call.Put) (site own call.Put ∷ []) ≡ true = rw (is_site_self own call.Put) refl in
       rw (may.known, told, may.there, told, queue_known own c core m k p s may.queued may.found, told, may.lives, may.orphaned, self) refl
 
-  pub claim_faulted : {way : Route} (count : ℕ) → Does own (row way (event.Claim own by s p) (reply.StoreFault own call.Put count) m) m c core (reply.StoreFault own call.Put count)
-  claim_faulted {way} count = does_nothing own (row way (event.Claim own by s p) (reply.StoreFault own call.Put count) m) m c core (reply.StoreFault own call.Put count) (faulted_is count) k
+  pub claim_faulted : (way : Route) (count : ℕ) (c' : Contents) (next : Storage) → next ≡ core.queues → c' ≡ c
+      → Does own (row way (event.Claim own by s p) (reply.StoreFault own call.Put count) m) m c' (record core { queues = next }) (reply.StoreFault own call.Put count)
+  claim_faulted way count c' next queues contents =
+      does_nothing own (row way (event.Claim own by s p) (reply.StoreFault own call.Put count) m) m c' (record core { queues = next }) (reply.StoreFault own call.Put count) (faulted_is count)
+      (subst (λ (x : Storage). Stands own c' (record core { queues = x }) (of own m)) (sym queues) (subst (λ (d : Contents). Stands own d core (of own m)) (sym contents) k))
 
   -- the queue has the new owner and no flight
   claimed_is : told (claim_plan own by s p m) reply.Done m ≡ answers reply.Done (with_queue own (record { peer = p; server = s; owner = by; form = may.queued.form; flight = None }) m)
@@ -142,11 +145,11 @@ module _ (own : Cluster) (c : Contents) (core : ClusterCore) (m : Machine) (k : 
   said_of : (o : Option QueueRecord) (P : QueueRecord → Type 0) → o ≡ Some may.queued → IfSome o P → P may.queued
   said_of o P e h = subst (λ (w : Option QueueRecord). IfSome w P) e h
 
-  pub claim_done : {way : Route} (c' : Contents) (next : Storage)
+  pub claim_done : (way : Route) (c' : Contents) (next : Storage)
       → IfSome (queue_at p s core.queues.queues) (λ (q : QueueRecord). next.queues ≡ replace (is_record p s) (owned by q) core.queues.queues) → next.ids ≡ core.queues.ids → next.forms ≡ core.queues.forms
       → IfSome (queue_at p s core.queues.queues) (λ (q : QueueRecord). c' ≡ with_records (queue_change (owned by q) ∷ []) c) → (Recorded c core.queues → Recorded c' next)
       → Does own (row way (event.Claim own by s p) reply.Done m) m c' (record core { queues = next }) reply.Done
-  claim_done {way} c' next queues ids forms put recorded =
+  claim_done way c' next queues ids forms put recorded =
       let is : c' ≡ with_records (queue_change (owned by may.queued) ∷ []) c = said_of (queue_at p s core.queues.queues) (λ (q : QueueRecord). c' ≡ with_records (queue_change (owned by q) ∷ []) c) may.found put in
       let changes : next.queues ≡ replace (is_record p s) (owned by may.queued) core.queues.queues =
       said_of (queue_at p s core.queues.queues) (λ (q : QueueRecord). next.queues ≡ replace (is_record p s) (owned by q) core.queues.queues) may.found queues in

@@ -1,5 +1,5 @@
 -- Flights in memory, and how the answer of an event of flights is put together.
-use Rattle.std.proofs.Common.{ℕ, ◌≡◌, ◌==◌, true, false, List, map, Option, Some, None, option_map, refl, ap, sym, ◌∙◌, subst, eqb-true, IfSome}
+use Rattle.std.proofs.Common.{ℕ, ◌≡◌, ◌==◌, true, false, List, map, Option, Some, None, refl, ap, sym, ◌∙◌, subst, eqb-true, IfSome}
 use Rattle.std.proofs.lemmas.Bool.{false≢true}
 use Rattle.rep_types.specs.declared.ids.Cluster.{Cluster}
 use Rattle.rep_types.specs.declared.refusal.Refusal.{Refusal}

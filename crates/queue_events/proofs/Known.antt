@@ -1,5 +1,5 @@
 -- What memory tells of peers, queues, servers and flights is what the state has.
-use Rattle.std.proofs.Common.{ℕ, zero, suc, ◌-◌, ◌≡◌, arith, true, map, find, slice_get, Option, Some, None, option_map, refl, ap, sym, ◌∙◌, subst, ne_eqb, if◌then◌else◌}
+use Rattle.std.proofs.Common.{ℕ, zero, suc, ◌-◌, ◌≡◌, arith, map, find, slice_get, Option, Some, None, option_map, refl, ap, sym, ◌∙◌, subst, ne_eqb, if◌then◌else◌}
 use Rattle.std.proofs.lemmas.Bool.{cond_both}
 use Rattle.std.proofs.lemmas.Option.{none-some, same_Some, slice_get-map}
 use Rattle.rep_types.specs.declared.ids.Cluster.{Cluster}
@@ -10,13 +10,11 @@ use Rattle.rep_model.specs.Keyed.{given}
 use Rattle.rep_model.specs.State.{Route, of, is_flight, flight_of, queue_of}
 use Rattle.rep_model.specs.Peers.{is_removed, is_enabled, peer_of}
 use Rattle.rep_model.specs.QueueEvents.{lives as lives_in}
-use Rattle.rep_model.specs.declared.machine.Flight.{Flight}
 use Rattle.rep_model.specs.declared.machine.Machine.{Machine}
 use Rattle.rep_model.specs.declared.machine.Peer.{Peer}
 use Rattle.rep_laws.proofs.CitedMore.{flight_is_slot, flight_0_is_none}
 use Rattle.cluster_core.specs.declared.parts.ClusterCore.{ClusterCore}
 use Rattle.cluster_core.specs.declared.parts.PeerLine.{PeerLine}
-use Rattle.cluster_core.specs.declared.parts.Sent.{Sent}
 use Rattle.cluster_core.specs.Does.{Reached, sent_of}
 use Rattle.cluster_core.specs.Lines.{added, lives}
 use Rattle.cluster_core.specs.Memory.{peer_line}

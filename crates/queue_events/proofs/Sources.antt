@@ -1,5 +1,5 @@
 -- The batch of a queue: where its frames stand, and the flight that its entries become.
-use Rattle.std.proofs.Common.{ℕ, zero, suc, ◌≤◌, ◌≡◌, ◌==◌, not, true, false, List, [], ◌∷◌, ◌++◌, map, find, drop, take, length, Option, Some, None, option_map, is_none, refl, ap, sym, ◌∙◌, subst, arith, eqb-true}
+use Rattle.std.proofs.Common.{ℕ, zero, suc, ◌≤◌, ◌≡◌, ◌==◌, true, false, List, [], ◌∷◌, ◌++◌, map, find, drop, take, length, Option, Some, None, option_map, refl, ap, sym, ◌∙◌, subst, arith, eqb-true}
 use Rattle.std.specs.Prelude.{All}
 use Rattle.std.specs.List.{AllByRecursion}
 use Rattle.std.proofs.lemmas.List.{take-append-drop, length-map}
@@ -14,7 +14,7 @@ use Rattle.queue_storage.specs.Queues.{queue_at}
 use Rattle.wal_entry.specs.Framed.{HasFrame}
 use Rattle.wal_entry.specs.Length.{frame_length}
 use Rattle.rep_model.specs.Keyed.{given}
-use Rattle.rep_model.specs.State.{Route, of, dest, is_server, is_peer, is_region, queue_of, server_of}
+use Rattle.rep_model.specs.State.{Route, of, dest, is_server, is_peer, is_region, server_of}
 use Rattle.rep_model.specs.Places.{is_named}
 use Rattle.rep_model.specs.Words.{is_in}
 use Rattle.rep_model.specs.Peers.{is_removed, peer_of, is_synchronous}
@@ -26,7 +26,6 @@ use Rattle.rep_model.specs.declared.machine.Commit.{Commit}
 use Rattle.rep_model.specs.declared.machine.Hosted.{Hosted}
 use Rattle.rep_model.specs.declared.machine.Region.{Region}
 use Rattle.rep_model.specs.declared.machine.Peer.{Peer}
-use Rattle.rep_model.specs.declared.machine.Queue.{Queue}
 use Rattle.rep_model.specs.declared.machine.Server.{Server}
 use Rattle.rep_laws.proofs.Lists.{In, in_all, all_in, All_weaker, All_both, All_left, All_passing, All_dropped, All_found, found_in, found_passes}
 use Rattle.rep_laws.proofs.CitedLogs.{queues_are_kept}

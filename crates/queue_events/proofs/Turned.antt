@@ -1,5 +1,5 @@
 -- A queue has another owner or another flight: memory and a store stand for the side in which it has.
-use Rattle.std.proofs.Common.{ℕ, ◌≡◌, List, [], ◌∷◌, map, find, Option, Some, refl, ap, sym, ◌∙◌, subst, MatchOption}
+use Rattle.std.proofs.Common.{ℕ, ◌≡◌, List, map, Option, Some, refl, ap, sym, ◌∙◌, subst, MatchOption}
 use Rattle.std.specs.List.{AllByRecursion}
 use Rattle.rep_types.specs.declared.ids.Cluster.{Cluster}
 use Rattle.rep_vault.specs.Contents.{Contents}

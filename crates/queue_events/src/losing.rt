@@ -52,11 +52,7 @@ fn may_lose<'a>(
 
 /// The outstanding flight of a queue is given up: its entries may be sent anew. The core is that of the flight's source. No call of
 /// its store is made.
-pub fn lose(
-    core: &mut ClusterCore,
-    flights: &Items<Sent>,
-    flight: u32,
-) -> Result<Reply, CoreError>
+pub fn lose(core: &mut ClusterCore, flights: &Items<Sent>, flight: u32) -> Result<Reply, CoreError>
     ensures does { (way : Route) (c : Contents) (m : Machine) → Reached way m → is_in way core.old.own ≡ true → Stands core.old.own c core.old (of core.old.own m)
         → flights.now ≡ map (sent_of way) m.flights → IsFrom core.old.own flight m
         → FliesOr way core.old.own (event.Lose flight) m c core.old flights.now c core.new flights.now result }

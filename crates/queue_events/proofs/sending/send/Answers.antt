@@ -1,4 +1,3 @@
-use Rattle.std.proofs.Common.{sym}
 use Rattle.rep_vault.specs.Contents.{Contents}
 use Rattle.rep_model.specs.QueueEvents.{send_plan}
 use Rattle.cluster_core.specs.declared.parts.ClusterCore.{ClusterCore}
