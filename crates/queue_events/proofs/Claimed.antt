@@ -150,7 +150,8 @@ module _ (own : Cluster) (c : Contents) (core : ClusterCore) (m : Machine) (k : 
       → IfSome (queue_at p s core.queues.queues) (λ (q : QueueRecord). c' ≡ with_records (queue_change (owned by q) ∷ []) c) → (Recorded c core.queues → Recorded c' next)
       → Does own (row way (event.Claim own by s p) reply.Done m) m c' (record core { queues = next }) reply.Done
   claim_done way c' next queues ids forms put recorded =
-      let is : c' ≡ with_records (queue_change (owned by may.queued) ∷ []) c = said_of (queue_at p s core.queues.queues) (λ (q : QueueRecord). c' ≡ with_records (queue_change (owned by q) ∷ []) c) may.found put in
+      let is : c' ≡ with_records (queue_change (owned by may.queued) ∷ []) c =
+      said_of (queue_at p s core.queues.queues) (λ (q : QueueRecord). c' ≡ with_records (queue_change (owned by q) ∷ []) c) may.found put in
       let changes : next.queues ≡ replace (is_record p s) (owned by may.queued) core.queues.queues =
       said_of (queue_at p s core.queues.queues) (λ (q : QueueRecord). next.queues ≡ replace (is_record p s) (owned by q) core.queues.queues) may.found queues in
       let files : c'.files ≡ c.files = ap (λ (d : Contents). d.files) is ∙ files_records (queue_change (owned by may.queued) ∷ []) c in

@@ -39,8 +39,8 @@ module _ {way : Route} (own : Cluster) (c : Contents) (core : ClusterCore) (m : 
       → Flies way own (row way (event.Send own p s n) (reply.StoreFault own call.Read count) m) m c core fs (reply.StoreFault own call.Read count)
   faulted_flies n count fs flights = flies_as own _ m m c core fs (reply.StoreFault own call.Read count) (send_faulted way own p s n m may count) k (λ d apart. refl) flights
 
-  pub sent_flies : LogsKept own m → (n number : ℕ) (es : List Entry) (whose : PeerLine) (to : Cluster) (fs : List Sent) (next : Storage) → to ≡ dest way own → 1 ≤ n → AreFramesAt c s (kept_batch p s n core) es → added p core.peers ≡ Some whose → fs ≡ map (sent_of way) m.flights → number ≡ length fs + 1
-      → IsFlown p s (Some number) core.queues next
+  pub sent_flies : LogsKept own m → (n number : ℕ) (es : List Entry) (whose : PeerLine) (to : Cluster) (fs : List Sent) (next : Storage)
+      → to ≡ dest way own → 1 ≤ n → AreFramesAt c s (kept_batch p s n core) es → added p core.peers ≡ Some whose → fs ≡ map (sent_of way) m.flights → number ≡ length fs + 1 → IsFlown p s (Some number) core.queues next
       → Flies way own (row way (event.Send own p s n) (reply.Sent number (sent_with whose to p s es core).entries (length (sent_with whose to p s es core).forms)) m) m c (record core { queues = next }) (fs ++ sent_with whose to p s es core ∷ [])
       (reply.Sent number (sent_with whose to p s es core).entries (length (sent_with whose to p s es core).forms))
   sent_flies kept n number es whose to fs next goes_to some frames e flights number_is flown =
@@ -65,8 +65,8 @@ module _ {way : Route} (own : Cluster) (c : Contents) (core : ClusterCore) (m : 
       there (beside_both own side (m.flights ++ f ∷ []) m) out
 
   -- the same, as the calls tell it
-  pub sent_answer : LogsKept own m → (n number count : ℕ) (es : List Entry) (whose : PeerLine) (to : Cluster) (made : Sent) (fs fs' : List Sent) (next : Storage) (c' : Contents) → to ≡ dest way own → 1 ≤ n → AreFramesAt c s (kept_batch p s n core) es → added p core.peers ≡ Some whose → fs ≡ map (sent_of way) m.flights → number ≡ length fs + 1
-      → IsFlown p s (Some number) core.queues next
+  pub sent_answer : LogsKept own m → (n number count : ℕ) (es : List Entry) (whose : PeerLine) (to : Cluster) (made : Sent) (fs fs' : List Sent) (next : Storage) (c' : Contents)
+      → to ≡ dest way own → 1 ≤ n → AreFramesAt c s (kept_batch p s n core) es → added p core.peers ≡ Some whose → fs ≡ map (sent_of way) m.flights → number ≡ length fs + 1 → IsFlown p s (Some number) core.queues next
       → made ≡ sent_with whose to p s es core → count ≡ length made.forms → fs' ≡ fs ++ made ∷ [] → c' ≡ c
       → Flies way own (row way (event.Send own p s n) (reply.Sent number made.entries count) m) m c' (record core { queues = next }) fs' (reply.Sent number made.entries count)
   sent_answer kept n number count es whose to made fs fs' next c' goes_to some frames e flights number_is flown is count_is pushed same =

@@ -85,7 +85,8 @@ module _ (k : ℕ) (f : Flight) (c : Contents) (core : ClusterCore) (m : Machine
       ∙ ap (λ (b : Bool). told (Refuses (not b) (refusal.Stale now) (Ends reply.Done (landed f m))) said m) e)
 
 -- the same, as memory tells it
-module _ {way : Route} (own : Cluster) (c : Contents) (core : ClusterCore) (m : Machine) (k : ℕ) (s : Sent) (h : HasFlight way own c core m k s) (o : Option ℕ) (told_out : o ≡ outstanding s.peer s.server core.queues.queues) where
+module _ {way : Route} (own : Cluster) (c : Contents) (core : ClusterCore) (m : Machine) (k : ℕ) (s : Sent) (h : HasFlight way own c core m k s)
+    (o : Option ℕ) (told_out : o ≡ outstanding s.peer s.server core.queues.queues) where
   out_told : o ≡ outstanding h.flight.peer h.flight.server core.queues.queues
   out_told = told_out ∙ ap (λ (x : Sent). outstanding x.peer x.server core.queues.queues) h.is
 
@@ -104,7 +105,8 @@ landed_is f q m e = ap (λ (o : Option Queue). given o m (λ (x : Queue). with_q
 out_itself : (k : ℕ) → is_out k (Some k) ≡ true
 out_itself k = eq-eqb k k refl
 
-module _ {way : Route} (k : ℕ) (m : Machine) (c : Contents) (core : ClusterCore) (fs : List Sent) (s : Sent) (flights : fs ≡ map (sent_of way) m.flights) (may : MayLose way core k m s) (next : Storage) (flown : IsFlown s.peer s.server None core.queues next) where
+module _ {way : Route} (k : ℕ) (m : Machine) (c : Contents) (core : ClusterCore) (fs : List Sent) (s : Sent) (flights : fs ≡ map (sent_of way) m.flights)
+    (may : MayLose way core k m s) (next : Storage) (flown : IsFlown s.peer s.server None core.queues next) where
   pub lost_flies : Stands may.flight.cluster c core (of may.flight.cluster m) → Flies way may.flight.cluster (row way (event.Lose k) reply.Done m) m c (record core { queues = next }) fs reply.Done
   lost_flies st =
       let f : Flight = may.flight in

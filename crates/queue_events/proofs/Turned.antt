@@ -28,18 +28,22 @@ abbrev pub turned_side : QueueRecord → ℕ → Option ℕ → Side → Side
 turned_side q owner flight side = requeued side.peers (turned_queues q owner flight side.queues) side.forms side
 
 -- a queue's place doesn't know the other queues, nor its owner and its flight
-same_place : (side : Side) (queues : List Queue) (q : QueueRecord) (owner : ℕ) (flight : Option ℕ) → IsAt side q → IsAt (requeued side.peers queues side.forms side) (record q { owner = owner; flight = flight })
+same_place : (side : Side) (queues : List Queue) (q : QueueRecord) (owner : ℕ) (flight : Option ℕ) → IsAt side q
+    → IsAt (requeued side.peers queues side.forms side) (record q { owner = owner; flight = flight })
 same_place side queues q owner flight a =
     record { peer = a.peer; known = a.known; server = a.server; there = a.there; within = a.within; queued = a.queued; starts = a.starts; stands = a.stands; log = a.log }
 
-module _ (own : Cluster) (c : Contents) (core : ClusterCore) (side : Side) (k : Stands own c core side) (p s : ℕ) (q : QueueRecord) (found : queue_at p s core.queues.queues ≡ Some q) (owner : ℕ) (flight : Option ℕ) where
-  queues_turned : (next : Storage) → next.queues ≡ replace (is_record p s) (record q { owner = owner; flight = flight }) core.queues.queues → next.ids ≡ core.queues.ids → next.forms ≡ core.queues.forms
-      → QueuesStand (record core { queues = next }) (turned_side q owner flight side)
+module _ (own : Cluster) (c : Contents) (core : ClusterCore) (side : Side) (k : Stands own c core side) (p s : ℕ)
+    (q : QueueRecord) (found : queue_at p s core.queues.queues ≡ Some q) (owner : ℕ) (flight : Option ℕ) where
+  queues_turned : (next : Storage) → next.queues ≡ replace (is_record p s) (record q { owner = owner; flight = flight }) core.queues.queues
+      → next.ids ≡ core.queues.ids → next.forms ≡ core.queues.forms → QueuesStand (record core { queues = next }) (turned_side q owner flight side)
   queues_turned next queues ids forms =
       let new : QueueRecord = record q { owner = owner; flight = flight } in
       let n = record_numbers p s core.queues.queues q found in
-      let here : IsAt (turned_side q owner flight side) new = same_place side (turned_queues q owner flight side.queues) q owner flight (All_found (IsAt side) (is_record p s) core.queues.queues q found k.queues.at) in
-      let others : AllByRecursion (IsAt (turned_side q owner flight side)) core.queues.queues = All_weaker (λ r a. same_place side (turned_queues q owner flight side.queues) r r.owner r.flight a) core.queues.queues k.queues.at in
+      let here : IsAt (turned_side q owner flight side) new =
+      same_place side (turned_queues q owner flight side.queues) q owner flight (All_found (IsAt side) (is_record p s) core.queues.queues q found k.queues.at) in
+      let others : AllByRecursion (IsAt (turned_side q owner flight side)) core.queues.queues =
+      All_weaker (λ r a. same_place side (turned_queues q owner flight side.queues) r r.owner r.flight a) core.queues.queues k.queues.at in
       record {
         peers = k.queues.peers;
         plain = k.queues.plain;
@@ -65,8 +69,8 @@ pub record IsFlown (p s : ℕ) (flight : Option ℕ) (old next : Storage) : Type
   pub forms : next.forms ≡ old.forms
   pub recorded : (c : Contents) → Recorded c old → Recorded c next
 
-pub flown_stands : (own : Cluster) (c : Contents) (core : ClusterCore) (side : Side) → Stands own c core side → (p s : ℕ) (q : QueueRecord) → queue_at p s core.queues.queues ≡ Some q → (flight : Option ℕ) (next : Storage) → IsFlown p s flight core.queues next
-    → Stands own c (record core { queues = next }) (turned_side q q.owner flight side)
+pub flown_stands : (own : Cluster) (c : Contents) (core : ClusterCore) (side : Side) → Stands own c core side → (p s : ℕ) (q : QueueRecord) → queue_at p s core.queues.queues ≡ Some q
+    → (flight : Option ℕ) (next : Storage) → IsFlown p s flight core.queues next → Stands own c (record core { queues = next }) (turned_side q q.owner flight side)
 flown_stands own c core side k p s q found flight next f =
     let queues : next.queues ≡ replace (is_record p s) (flies flight q) core.queues.queues =
     subst (λ (o : Option QueueRecord). MatchOption o (next.queues ≡ core.queues.queues) (λ (r : QueueRecord). next.queues ≡ replace (is_record p s) (flies flight r) core.queues.queues)) found f.queues in
