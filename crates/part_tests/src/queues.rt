@@ -26,19 +26,27 @@ fn keeps_records(alloc: Global) -> Result<bool, Fail> {
     let start = Place { log: 1, offset: 32 };
     let place = Place { log: 1, offset: 88 };
     let old = store.set_forms(&mut vault, QueueForms::Old).is_ok();
-    let queue = store.new_queue(peer, server, start);
+    let queue = store.new_queue(peer, server, start, 1);
     let added = store.add(&mut vault, &[queue], Vec::new(alloc)).is_ok();
     let ids = [LastId { region, seq: 2 }];
     let placed = store
-        .set_place(&mut vault, peer, server, place, &ids)
+        .record_place(&mut vault, peer, server, place, 2, &ids)
         .is_ok();
     let listed = has_record(alloc, &mut vault, "queue/1/1", b"1 1 32 88 1")?;
+    let rolled = store
+        .add_log(&mut vault, server, 2, Vec::new(alloc))
+        .is_ok();
+    let longer = has_record(alloc, &mut vault, "queue/1/1", b"1 1 32 88 1,2")?;
     let mixed = store.set_forms(&mut vault, QueueForms::Mixed).is_ok();
     let migrated = store.migrate(&mut vault, peer, server).is_ok();
     let grouped = has_record(alloc, &mut vault, "queue/1/1", b"group 1 1 32 1 88")?;
     let last = has_record(alloc, &mut vault, "last/1/1", b"2")?;
     let forms = has_record(alloc, &mut vault, "forms", b"mixed")?;
-    Ok(old && added && placed && listed && mixed && migrated && grouped && last && forms)
+    let dropped = store.drop_peer(&mut vault, peer, Vec::new(alloc)).is_ok();
+    let mut out = Bytes::new(alloc);
+    let gone = !vault.get("queue/1/1", &mut out)? && !vault.get("last/1/1", &mut out)?;
+    let begun = old && added && placed && listed && rolled && longer;
+    Ok(begun && mixed && migrated && grouped && last && forms && dropped && gone)
 }
 
 // A queue is claimed by a live server alone, and only while its owner is dead.
@@ -50,7 +58,7 @@ fn claims(alloc: Global) -> Result<bool, Fail> {
         return Ok(false);
     };
     let start = Place { log: 1, offset: 0 };
-    let queue = store.new_queue(peer, one, start);
+    let queue = store.new_queue(peer, one, start, 0);
     let added = store.add(&mut vault, &[queue], Vec::new(alloc)).is_ok();
     let mut live = ServerSet::new(alloc);
     let dead = matches!(

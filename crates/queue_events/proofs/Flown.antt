@@ -1,5 +1,5 @@
 -- A delivery as the event's row has it.
-use Rattle.std.proofs.Common.{ℕ, zero, suc, ◌+◌, ◌<◌, ◌≡◌, ◌==◌, Bool, true, List, [], ◌∷◌, map, find, length, slice_get, set, Option, Some, None, Result, Err, option_map, is_none, refl, ap, sym, ◌∙◌, subst, arith, eq-eqb, ne_eqb, IfSome}
+use Rattle.std.proofs.Common.{ℕ, zero, suc, ◌+◌, ◌<◌, ◌≡◌, ◌==◌, Bool, true, List, [], ◌∷◌, map, find, length, slice_get, set, Option, Some, None, Result, Err, option_map, refl, ap, sym, ◌∙◌, subst, arith, eq-eqb, ne_eqb, IfSome}
 use Rattle.std.specs.List.{AllByRecursion}
 use Rattle.std.proofs.lemmas.Bool.{cond-true, cond-false}
 use Rattle.std.proofs.lemmas.List.{map-set}

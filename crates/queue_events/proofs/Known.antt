@@ -1,28 +1,26 @@
 -- What memory tells of peers, queues, servers and flights is what the state has.
-use Rattle.std.proofs.Common.{ℕ, zero, suc, ◌-◌, ◌≡◌, arith, true, map, find, slice_get, Option, Some, None, option_map, refl, ap, sym, ◌∙◌, subst, ne_eqb, if◌then◌else◌}
+use Rattle.std.proofs.Common.{ℕ, zero, suc, ◌-◌, ◌≡◌, arith, map, find, slice_get, Option, Some, None, option_map, refl, ap, sym, ◌∙◌, subst, ne_eqb, if◌then◌else◌}
 use Rattle.std.proofs.lemmas.Bool.{cond_both}
 use Rattle.std.proofs.lemmas.Option.{none-some, same_Some, slice_get-map}
 use Rattle.rep_types.specs.declared.ids.Cluster.{Cluster}
 use Rattle.rep_vault.specs.Contents.{Contents}
+use Rattle.queue_storage.specs.declared.record.QueueRecord.{QueueRecord}
+use Rattle.queue_storage.specs.Queues.{queue_at}
 use Rattle.rep_model.specs.Keyed.{given}
-use Rattle.rep_model.specs.State.{Route, of, is_flight, is_queue, flight_of, queue_of}
+use Rattle.rep_model.specs.State.{Route, of, is_flight, flight_of, queue_of}
 use Rattle.rep_model.specs.Peers.{is_removed, is_enabled, peer_of}
 use Rattle.rep_model.specs.QueueEvents.{lives as lives_in}
-use Rattle.rep_model.specs.declared.machine.Flight.{Flight}
 use Rattle.rep_model.specs.declared.machine.Machine.{Machine}
 use Rattle.rep_model.specs.declared.machine.Peer.{Peer}
-use Rattle.rep_model.specs.declared.machine.Queue.{Queue}
 use Rattle.rep_laws.proofs.CitedMore.{flight_is_slot, flight_0_is_none}
 use Rattle.cluster_core.specs.declared.parts.ClusterCore.{ClusterCore}
-use Rattle.cluster_core.specs.declared.parts.Line.{Line}
 use Rattle.cluster_core.specs.declared.parts.PeerLine.{PeerLine}
-use Rattle.cluster_core.specs.declared.parts.Sent.{Sent}
 use Rattle.cluster_core.specs.Does.{Reached, sent_of}
 use Rattle.cluster_core.specs.Lines.{added, lives}
-use Rattle.cluster_core.specs.Lookups.{is_line}
-use Rattle.cluster_core.specs.Memory.{peer_line, queue_of_line}
+use Rattle.cluster_core.specs.Memory.{peer_line}
+use Rattle.cluster_core.specs.Queues.{queue_of as as_queue}
 use Rattle.cluster_core.specs.Stands.{Stands}
-use Rattle.cluster_core.proofs.QueueLookups.{added_one, added_is, line_is, lives_is}
+use Rattle.cluster_core.proofs.QueueLookups.{added_one, added_is, queue_found, lives_is}
 use Rattle.queue_events.specs.Flights.{sent_at}
 
 pub mapped_none : {X Y : Type 0} (f : X → Y) (o : Option X) → option_map f o ≡ None → o ≡ None
@@ -68,14 +66,14 @@ module _ (own : Cluster) (c : Contents) (core : ClusterCore) (m : Machine) (k : 
       let x = mapped_some peer_line (peer_of own p m) y (sym (peer_is p) ∙ e) in
       (x.0, x.1, ap (λ (z : PeerLine). is_enabled z.standing) x.2)
 
-  pub queue_is : (p s : ℕ) → option_map queue_of_line (find (is_line p s) core.lines) ≡ queue_of own p s m
-  queue_is p s = sym (line_is p s core.lines) ∙ ap (find (is_queue p s)) k.queues.queues
+  pub queue_is : (p s : ℕ) → queue_of own p s m ≡ option_map as_queue (queue_at p s core.queues.queues)
+  queue_is p s = queue_found core (of own m) p s k.queues
 
-  pub queue_absent : (p s : ℕ) → find (is_line p s) core.lines ≡ None → queue_of own p s m ≡ None
-  queue_absent p s e = sym (queue_is p s) ∙ ap (option_map queue_of_line) e
+  pub queue_absent : (p s : ℕ) → queue_at p s core.queues.queues ≡ None → queue_of own p s m ≡ None
+  queue_absent p s e = queue_is p s ∙ ap (option_map as_queue) e
 
-  pub queue_known : (p s : ℕ) (l : Line) → find (is_line p s) core.lines ≡ Some l → queue_of own p s m ≡ Some (queue_of_line l)
-  queue_known p s l e = sym (queue_is p s) ∙ ap (option_map queue_of_line) e
+  pub queue_known : (p s : ℕ) (q : QueueRecord) → queue_at p s core.queues.queues ≡ Some q → queue_of own p s m ≡ Some (as_queue q)
+  queue_known p s q e = queue_is p s ∙ ap (option_map as_queue) e
 
   pub living_is : (s : ℕ) → lives s core.stations ≡ lives_in own s m
   living_is s = lives_is c (of own m) s _ _ (k.servers s)

@@ -1,12 +1,15 @@
 pub mod Arrivals
 pub mod Batched
+pub mod Claimed
 pub mod Confirmed
 pub mod Flown
+pub mod Flying
 pub mod Formed
 pub mod Forms
 pub mod Framing
 pub mod Going
 pub mod Known
+pub mod Lost
 pub mod Merging
 pub mod Midway
 pub mod Pieces
@@ -15,4 +18,5 @@ pub mod Sends
 pub mod Sources
 pub mod Taking
 pub mod Telling
+pub mod Turned
 pub mod Underway

@@ -1,11 +1,10 @@
--- A batch that goes out, and what memory and the store stand for after it.
-use Rattle.std.proofs.Common.{ℕ, ◌≡◌, ◌==◌, true, false, List, [], ◌∷◌, ◌++◌, length, find, Some, None, refl, ap, sym, ◌∙◌}
-use Rattle.std.specs.List.{AllByRecursion, list_any}
+-- A batch that goes out, and the state after it.
+use Rattle.std.proofs.Common.{ℕ, ◌≡◌, ◌==◌, true, false, List, [], ◌∷◌, ◌++◌, length, Some, None, refl, ap, ◌∙◌}
+use Rattle.std.specs.List.{list_any}
 use Rattle.rep_types.specs.declared.ids.Cluster.{Cluster}
 use Rattle.rep_types.specs.declared.ids.Cluster.TheVariants.{A, B, C}
 use Rattle.rep_types.specs.declared.reply.Reply.TheVariants as reply
 use Rattle.rep_types.specs.declared.state.Call.TheVariants as call
-use Rattle.rep_vault.specs.Contents.{Contents}
 use Rattle.rep_model.specs.Keyed.{replace}
 use Rattle.rep_model.specs.State.{Route, of, with, mark, is_queue, with_queue}
 use Rattle.rep_model.specs.Queues.{batch}
@@ -17,18 +16,10 @@ use Rattle.rep_model.specs.declared.machine.Side.{Side}
 use Rattle.rep_model.specs.declared.machine.Commit.{Commit}
 use Rattle.rep_model.specs.declared.machine.Flight.{Flight}
 use Rattle.rep_model.specs.declared.machine.Queue.{Queue}
-use Rattle.rep_laws.proofs.Finding.{All_replaced}
-use Rattle.rep_laws.proofs.Lists.{All_found}
 use Rattle.rep_laws.proofs.Sides.{of_with, of_flights}
-use Rattle.cluster_core.specs.declared.parts.ClusterCore.{ClusterCore}
-use Rattle.cluster_core.specs.declared.parts.Line.{Line}
-use Rattle.cluster_core.specs.Memory.{queue_of_line, IsAt}
-use Rattle.cluster_core.specs.Stands.{QueuesStand, Stands}
-use Rattle.cluster_core.specs.Lookups.{is_line}
-use Rattle.cluster_core.specs.Lines.{flies}
 use Rattle.cluster_core.proofs.Answering.{is_site_self}
 use Rattle.cluster_core.proofs.Simple.{beside_with}
-use Rattle.cluster_core.proofs.Queued.{requeued, stands_requeued, map_replace, line_numbers}
+use Rattle.cluster_core.proofs.Requeued.{requeued}
 use Rattle.queue_events.specs.Sending.{MaySend}
 
 -- ---- the row
@@ -53,7 +44,7 @@ module _ (way : Route) (own : Cluster) (p s n : ℕ) (m : Machine) (may : MaySen
 
 pub flown_is : (c : Cluster) (k : ℕ) (fs : List Flight) (q : Queue) (m : Machine)
     → with_queue c (record q { flight = Some k }) (record m { flights = fs })
-    ≡ record (with c (requeued (of c m).peers (replace (is_queue q.peer q.server) (record q { flight = Some k }) (of c m).queues) (of c m)) m) { flights = fs }
+    ≡ record (with c (requeued (of c m).peers (replace (is_queue q.peer q.server) (record q { flight = Some k }) (of c m).queues) (of c m).forms (of c m)) m) { flights = fs }
 flown_is A k fs q m = refl
 flown_is B k fs q m = refl
 flown_is C k fs q m = refl
@@ -63,39 +54,3 @@ of_both c side fs m = of_flights c fs (with c side m) ∙ of_with c side m
 
 pub beside_both : (c : Cluster) (side : Side) (fs : List Flight) (m : Machine) (d : Cluster) → (mark d == mark c) ≡ false → of d (record (with c side m) { flights = fs }) ≡ of d m
 beside_both c side fs m d apart = of_flights d fs (with c side m) ∙ beside_with c side m d apart
-
--- the queue has a flight
-module _ (own : Cluster) (c : Contents) (core : ClusterCore) (m : Machine) (k : Stands own c core (of own m)) (p s f : ℕ) (l : Line) (found : find (is_line p s) core.lines ≡ Some l) where
-  abbrev new_line : Line
-  new_line = flies (Some f) l
-
-  abbrev new_queues : List Queue
-  new_queues = replace (is_queue l.peer l.server) (record (queue_of_line l) { flight = Some f }) (of own m).queues
-
-  same_place : (r : Line) → IsAt (of own m) r → IsAt (requeued (of own m).peers new_queues (of own m)) r
-  same_place r a = record { peer = a.peer; known = a.known; within = a.within; queued = a.queued }
-
-  at_all : (ls : List Line) → AllByRecursion (IsAt (of own m)) ls → AllByRecursion (IsAt (requeued (of own m).peers new_queues (of own m))) ls
-  at_all [] a = tt
-  at_all (r ∷ ls) a = (same_place r a.0, at_all ls a.1)
-
-  at_line : (ls : List Line) → find (is_line p s) ls ≡ Some l → AllByRecursion (IsAt (of own m)) ls → IsAt (of own m) l
-  at_line ls e a = All_found (IsAt (of own m)) (is_line p s) ls l e a
-
-  new_at : IsAt (requeued (of own m).peers new_queues (of own m)) new_line
-  new_at = let a = at_line core.lines found k.queues.at in record { peer = a.peer; known = a.known; within = a.within; queued = a.queued }
-
-  queues_out : QueuesStand (record core { lines = replace (is_line p s) new_line core.lines }) (requeued (of own m).peers new_queues (of own m))
-  queues_out =
-      let n = line_numbers p s core.lines l found in
-      record {
-        peers = k.queues.peers;
-        plain = k.queues.plain;
-        queues = map_replace queue_of_line (is_queue p s) new_line core.lines
-            ∙ (ap (replace (is_queue p s) (queue_of_line new_line)) k.queues.queues
-            ∙ (ap (λ i. replace (is_queue i s) (queue_of_line new_line) (of own m).queues) (sym n.0) ∙ ap (λ i. replace (is_queue l.peer i) (queue_of_line new_line) (of own m).queues) (sym n.1)));
-        at = All_replaced (IsAt (requeued (of own m).peers new_queues (of own m))) (is_line p s) new_line core.lines new_at (at_all core.lines k.queues.at);
-      }
-
-  pub out_stands : Stands own c (record core { lines = replace (is_line p s) (flies (Some f) l) core.lines }) (requeued (of own m).peers (replace (is_queue l.peer l.server) (record (queue_of_line l) { flight = Some f }) (of own m).queues) (of own m))
-  out_stands = stands_requeued own c core (of own m) _ _ _ k (λ i. refl) queues_out

@@ -1,5 +1,5 @@
 -- The batch of a queue: where its frames stand, and the flight that its entries become.
-use Rattle.std.proofs.Common.{ℕ, zero, suc, ◌≤◌, ◌≡◌, ◌==◌, not, true, false, List, [], ◌∷◌, ◌++◌, map, find, drop, take, length, Option, Some, None, option_map, is_none, refl, ap, sym, ◌∙◌, subst, arith, eqb-true}
+use Rattle.std.proofs.Common.{ℕ, zero, suc, ◌≤◌, ◌≡◌, ◌==◌, true, false, List, [], ◌∷◌, ◌++◌, map, find, drop, take, length, Option, Some, None, option_map, refl, ap, sym, ◌∙◌, subst, arith, eqb-true}
 use Rattle.std.specs.Prelude.{All}
 use Rattle.std.specs.List.{AllByRecursion}
 use Rattle.std.proofs.lemmas.List.{take-append-drop, length-map}
@@ -9,10 +9,12 @@ use Rattle.rep_types.specs.declared.ids.Cluster.{Cluster}
 use Rattle.rep_types.specs.declared.entry.Entry.{Entry}
 use Rattle.rep_types.specs.declared.state.Kind.TheVariants.{Plain}
 use Rattle.rep_vault.specs.Contents.{Contents}
+use Rattle.queue_storage.specs.declared.record.QueueRecord.{QueueRecord}
+use Rattle.queue_storage.specs.Queues.{queue_at}
 use Rattle.wal_entry.specs.Framed.{HasFrame}
 use Rattle.wal_entry.specs.Length.{frame_length}
 use Rattle.rep_model.specs.Keyed.{given}
-use Rattle.rep_model.specs.State.{Route, of, dest, is_server, is_peer, is_region, queue_of, server_of}
+use Rattle.rep_model.specs.State.{Route, of, dest, is_server, is_peer, is_region, server_of}
 use Rattle.rep_model.specs.Places.{is_named}
 use Rattle.rep_model.specs.Words.{is_in}
 use Rattle.rep_model.specs.Peers.{is_removed, peer_of, is_synchronous}
@@ -24,23 +26,22 @@ use Rattle.rep_model.specs.declared.machine.Commit.{Commit}
 use Rattle.rep_model.specs.declared.machine.Hosted.{Hosted}
 use Rattle.rep_model.specs.declared.machine.Region.{Region}
 use Rattle.rep_model.specs.declared.machine.Peer.{Peer}
-use Rattle.rep_model.specs.declared.machine.Queue.{Queue}
 use Rattle.rep_model.specs.declared.machine.Server.{Server}
 use Rattle.rep_laws.proofs.Lists.{In, in_all, all_in, All_weaker, All_both, All_left, All_passing, All_dropped, All_found, found_in, found_passes}
 use Rattle.rep_laws.proofs.CitedLogs.{queues_are_kept}
 use Rattle.rep_laws.proofs.CitedMore.{commits_are_in_logs, regions_are_known, hosted_table_is_found, frame_fits}
 use Rattle.cluster_core.specs.declared.parts.ClusterCore.{ClusterCore}
 use Rattle.cluster_core.specs.declared.parts.Kept.{Kept}
-use Rattle.cluster_core.specs.declared.parts.Line.{Line}
 use Rattle.cluster_core.specs.declared.parts.PeerLine.{PeerLine}
 use Rattle.cluster_core.specs.declared.parts.Sent.{Sent}
 use Rattle.cluster_core.specs.declared.parts.Shelf.{Shelf}
 use Rattle.cluster_core.specs.declared.parts.Station.{Station}
 use Rattle.cluster_core.specs.Entries.{entry_of, server_commits}
-use Rattle.cluster_core.specs.Memory.{peer_line, queue_of_line, kept_after, shelf_of}
+use Rattle.cluster_core.specs.Memory.{peer_line, kept_after, shelf_of}
+use Rattle.cluster_core.specs.Queues.{queue_of as as_queue}
 use Rattle.cluster_core.specs.Stands.{StationAt, Stands, is_station}
 use Rattle.cluster_core.specs.Does.{Reached, sent_of}
-use Rattle.cluster_core.specs.Lookups.{is_line, is_peer_line}
+use Rattle.cluster_core.specs.Lookups.{is_peer_line}
 use Rattle.cluster_core.specs.Lines.{added, is_shelf}
 use Rattle.cluster_core.proofs.Finds.{find_map}
 use Rattle.cluster_core.proofs.QueueLookups.{added_one}
@@ -48,7 +49,7 @@ use Rattle.cluster_core.proofs.Shelving.{shelf_found}
 use Rattle.queue_events.specs.Sending.{MaySend, taken_kept, kept_batch, entry_forms, sent_with}
 use Rattle.queue_events.specs.Reading.{HasFrameAt, AreFramesAt}
 use Rattle.queue_events.proofs.Known.{added_found, mapped_some, peer_is, queue_is}
-use Rattle.queue_events.proofs.Sendable.{server_there, queue_at}
+use Rattle.queue_events.proofs.Sendable.{server_there, waits_at}
 use Rattle.queue_events.proofs.Batched.{drop_kept, taken_is, taken_front, taken_some}
 use Rattle.queue_events.proofs.Framing.{HoldsLog, Stored, log_holds, frames_at, have_frames, one_list}
 use Rattle.queue_events.proofs.Formed.{Known, forms_are}
@@ -115,11 +116,11 @@ nothing h = omega arith
 
 module _ {way : Route} (own : Cluster) (c : Contents) (core : ClusterCore) (m : Machine) (reached : Reached way m) (pair : is_in way own ≡ true) (k : Stands own c core (of own m)) (p s : ℕ)
     (may : MaySend own m p s) where
-  pub its_line : (l : Line) × (find (is_line p s) core.lines ≡ Some l) × (queue_of_line l ≡ may.queued)
-  its_line = mapped_some queue_of_line (find (is_line p s) core.lines) may.queued (queue_is own c core m k p s ∙ may.its_queue)
+  pub its_record : (q : QueueRecord) × (queue_at p s core.queues.queues ≡ Some q) × (as_queue q ≡ may.queued)
+  its_record = mapped_some as_queue (queue_at p s core.queues.queues) may.queued (sym (queue_is own c core m k p s) ∙ may.its_queue)
 
-  at_line : (its_line.0.at ≤ length (server_commits s (of own m).commits)) × (queue may.peer s (of own m).commits ≡ drop its_line.0.at (server_commits s (of own m).commits))
-  at_line = queue_at own c core m k p s its_line.0 may.peer its_line.1 may.known
+  at_head : (its_record.0.at ≤ length (server_commits s (of own m).commits)) × (queue may.peer s (of own m).commits ≡ drop its_record.0.at (server_commits s (of own m).commits))
+  at_head = waits_at own c core m k p s its_record.0 may.peer its_record.1 may.known
 
   its_server : (v : Server) × (server_of own s m ≡ Some v) × (v.number ≡ s)
   its_server = server_there own pair m reached p s may.queued may.its_queue
@@ -144,7 +145,7 @@ module _ {way : Route} (own : Cluster) (c : Contents) (core : ClusterCore) (m : 
   members =
       let own_ones : AllByRecursion Member (server_commits s (of own m).commits) =
       All_passing (λ (y : Commit). In y (of own m).commits) Member (λ (y : Commit). y.server == s) (of own m).commits (λ y i t. (i, eqb-true y.server s t)) (all_in (of own m).commits) in
-      subst (AllByRecursion Member) (sym at_line.1) (All_dropped Member its_line.0.at (server_commits s (of own m).commits) own_ones)
+      subst (AllByRecursion Member) (sym at_head.1) (All_dropped Member its_record.0.at (server_commits s (of own m).commits) own_ones)
 
   has_frame : (y : Commit) → In y (of own m).commits → HasFrame (entry_of y)
   has_frame y i = in_all (λ (z : Commit). HasFrame (entry_of z)) y (of own m).commits i k.framed
@@ -177,25 +178,25 @@ module _ {way : Route} (own : Cluster) (c : Contents) (core : ClusterCore) (m : 
   of_front : (P : Commit → Type 0) (n : ℕ) → AllByRecursion P (queue may.peer s (of own m).commits) → AllByRecursion P (sent_ones n)
   of_front P n a = All_left P (sent_ones n) (front n).0 (subst (AllByRecursion P) (sym (front n).1) a)
 
-  pub batch_is : (n : ℕ) → kept_batch p s n core ≡ kept_after (take its_line.0.at (server_commits s (of own m).commits)) (sent_ones n)
+  pub batch_is : (n : ℕ) → kept_batch p s n core ≡ kept_after (take its_record.0.at (server_commits s (of own m).commits)) (sent_ones n)
   unfolding given
   batch_is n =
       let v = its_server in
       let S : List Commit = server_commits s (of own m).commits in
-      let at : ℕ = its_line.0.at in
+      let at : ℕ = its_record.0.at in
       let shelf : find (is_shelf s) core.index.shelves ≡ Some (shelf_of (of own m).commits v.0) = ap (find (is_shelf s)) k.index.shelves ∙ shelf_found (of own m).commits (of own m).servers s v.0 v.1 in
-      ap (λ (o : Option Line). given o [] (λ l. given (find (is_shelf s) core.index.shelves) [] (λ sh. taken_kept n 65536 (drop l.at sh.kept)))) its_line.1
+      ap (λ (o : Option QueueRecord). given o [] (λ q. given (find (is_shelf s) core.index.shelves) [] (λ sh. taken_kept n 65536 (drop q.at sh.kept)))) its_record.1
       ∙ (ap (λ (o : Option Shelf). given o [] (λ sh. taken_kept n 65536 (drop at sh.kept))) shelf
       ∙ (ap (λ i. taken_kept n 65536 (drop at (kept_after [] (server_commits i (of own m).commits)))) v.2
       ∙ (ap (taken_kept n 65536) (drop_kept at [] S)
       ∙ (taken_is may.peer (of own m).commits sender_plain n 65536 [] (take at S) (drop at S)
-      ∙ ap (λ (w : List Commit). kept_after (take at S) (taken may.peer (of own m).commits n 65536 [] w)) (sym at_line.1)))))
+      ∙ ap (λ (w : List Commit). kept_after (take at S) (taken may.peer (of own m).commits n 65536 [] w)) (sym at_head.1)))))
 
   pub batch_frames : LogsKept own m → (n : ℕ) → AreFramesAt c s (kept_batch p s n core) (map entry_of (sent_ones n))
   batch_frames kept n =
       let S : List Commit = server_commits s (of own m).commits in
-      let at : ℕ = its_line.0.at in
-      let split : S ≡ take at S ++ (sent_ones n ++ (front n).0) = sym (take-append-drop at S) ∙ ap (λ (w : List Commit). take at S ++ w) (sym at_line.1 ∙ sym (front n).1) in
+      let at : ℕ = its_record.0.at in
+      let split : S ≡ take at S ++ (sent_ones n ++ (front n).0) = sym (take-append-drop at S) ∙ ap (λ (w : List Commit). take at S ++ w) (sym at_head.1 ∙ sym (front n).1) in
       subst (λ (ks : List Kept). AreFramesAt c s ks (map entry_of (sent_ones n))) (sym (batch_is n))
       (frames_at c s (of own m).commits (take at S) (sent_ones n) (front n).0 split (of_front (Stored c s (of own m).commits) n (stored_all kept)))
 

@@ -1,9 +1,11 @@
 pub mod Acks
 pub mod Arriving
+pub mod Claiming
 pub mod Confirming
 pub mod Delivering
 pub mod Entered
 pub mod Flights
+pub mod Losing
 pub mod Reading
 pub mod Sending
 pub mod Underway

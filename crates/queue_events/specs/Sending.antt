@@ -3,6 +3,7 @@ use Rattle.std.specs.Prelude.{ℕ, zero, suc, ◌+◌, ◌-◌, ◌≡◌, not, 
 use Rattle.rep_types.specs.Edit.{EditValue}
 use Rattle.rep_types.specs.declared.ids.Cluster.{Cluster}
 use Rattle.rep_types.specs.declared.entry.Entry.{Entry}
+use Rattle.queue_storage.specs.Queues.{queue_at}
 use Rattle.region_meta.specs.Regions.{Map, region_of, table_of}
 use Rattle.rep_model.specs.Keyed.{given}
 use Rattle.rep_model.specs.Queues.{queue}
@@ -18,7 +19,6 @@ use Rattle.cluster_core.specs.declared.parts.ClusterCore.{ClusterCore}
 use Rattle.cluster_core.specs.declared.parts.Kept.{Kept}
 use Rattle.cluster_core.specs.declared.parts.PeerLine.{PeerLine}
 use Rattle.cluster_core.specs.declared.parts.Sent.{Sent}
-use Rattle.cluster_core.specs.Lookups.{is_line}
 use Rattle.cluster_core.specs.Lines.{is_shelf}
 
 -- a queue of which a batch may be sent: its peer is enabled, its owner lives, no flight of it is out, and it isn't empty
@@ -41,7 +41,7 @@ taken_kept (suc n) room (k ∷ ks) = if nat_le k.length room then k ∷ taken_ke
 -- the batch of a queue, from its place on
 abbrev pub kept_batch : ℕ → ℕ → ℕ → ClusterCore → List Kept
 kept_batch p s n core =
-    given (find (is_line p s) core.lines) [] (λ l. given (find (is_shelf s) core.index.shelves) [] (λ sh. taken_kept n 65536 (drop l.at sh.kept)))
+    given (queue_at p s core.queues.queues) [] (λ q. given (find (is_shelf s) core.index.shelves) [] (λ sh. taken_kept n 65536 (drop q.at sh.kept)))
 
 -- the form of an entry for a peer with these tables
 abbrev pub entry_form : Cluster → List (List ℕ) → Map → Entry → Option EditValue

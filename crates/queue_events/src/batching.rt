@@ -2,7 +2,7 @@
 ghost use Rattle.std.specs.Prelude.{◌≡◌, drop, IfOk};
 ghost use Rattle.queue_events.specs.Sending.{taken_kept, kept_batch};
 
-use cluster_core::{ClusterCore, Kept, find_line, find_shelf};
+use cluster_core::{ClusterCore, Kept, find_shelf};
 use rep_types::{Items, Memory, PeerId, ServerId};
 use std::alloc::Global;
 
@@ -43,11 +43,11 @@ pub fn batch(
 ) -> Result<Items<Kept>, Memory>
     ensures { IfOk result (λ taken. taken ≡ kept_batch peer server most core.now) }
 {
-    let Some(line) = find_line(&core.lines, peer, server) else {
+    let Some(queue) = core.queues.queue(peer, server) else {
         return Ok(Items::new(alloc));
     };
     match find_shelf(&core.index.shelves, server) {
-        Some(shelf) => take(alloc, after(shelf.kept.as_slice(), line.at), most),
+        Some(shelf) => take(alloc, after(shelf.kept.as_slice(), queue.at), most),
         None => Ok(Items::new(alloc)),
     }
 }

@@ -12,7 +12,7 @@ ghost use Rattle.cluster_core.specs.Lines.{added};
 ghost use Rattle.cluster_core.specs.Stands.{Stands};
 ghost use Rattle.queue_events.specs.Sending.{MaySend};
 
-use cluster_core::{ClusterCore, PeerLine, Sent, added_peer, find_line, is_live, shelf_length};
+use cluster_core::{ClusterCore, PeerLine, Sent, added_peer, is_live, shelf_length};
 use rep_model::Standing;
 use rep_types::{Items, Kind, PeerId, Refusal, ServerId};
 
@@ -49,19 +49,19 @@ pub fn may_send<'a>(
     let Some(whose) = added_peer(&core.peers, peer) else {
         return Err(Refusal::NoPeer);
     };
-    let Some(line) = find_line(&core.lines, peer, server) else {
+    let Some(queue) = core.queues.queue(peer, server) else {
         return Err(Refusal::NoQueue);
     };
-    if !is_live(&core.stations, line.owner) {
-        return Err(Refusal::OwnerDead { by: line.owner });
+    if !is_live(&core.stations, queue.owner) {
+        return Err(Refusal::OwnerDead { by: queue.owner });
     }
     if !is_enabled(whose.standing) {
         return Err(Refusal::Disabled);
     }
-    if let Some(flight) = line.flight {
+    if let Some(flight) = queue.flight {
         return Err(Refusal::Outstanding { flight });
     }
-    if shelf_length(&core.index.shelves, server) <= line.at {
+    if shelf_length(&core.index.shelves, server) <= queue.at {
         return Err(Refusal::Empty);
     }
     Ok(whose)

@@ -14,7 +14,7 @@ use crate::batching::batch;
 use crate::forming::entry_forms;
 use crate::reading::{ReadError, read_entries};
 use crate::refusals::{is_synchronous, may_send, next_number};
-use cluster_core::{ClusterCore, CoreError, PeerLine, Sent, set_out};
+use cluster_core::{ClusterCore, CoreError, PeerLine, Sent};
 use rep_types::{Call, Cluster, Items, PeerId, Reply, ServerId};
 use rep_vault::Vault;
 use std::alloc::Global;
@@ -100,7 +100,7 @@ pub fn send<V: Vault>(
         Ok(()) => {}
         Err(_) => return Err(CoreError::Memory { changed: false }),
     }
-    set_out(&mut core.lines, peer, server, number);
+    core.queues.set_flight(peer, server, Some(number));
     Ok(Reply::Sent {
         flight: number,
         entries,

@@ -1,9 +1,8 @@
-use Rattle.std.proofs.Common.{sym}
 use Rattle.rep_vault.specs.Contents.{Contents}
 use Rattle.rep_model.specs.QueueEvents.{send_plan}
 use Rattle.cluster_core.specs.declared.parts.ClusterCore.{ClusterCore}
 use Rattle.queue_events.proofs.Sources.{logs_kept}
-use Rattle.queue_events.proofs.Confirmed.{plan_refused}
+use Rattle.queue_events.proofs.Flying.{plan_refused}
 use Rattle.queue_events.proofs.Going.{faulted_flies, sent_answer}
 use Rattle.queue_events.proofs.sending.send.Goals as goal
 
@@ -32,5 +31,5 @@ returns-clause-does g c = λ way m reached inside to stands flights some.
     let may = c.in-Ok.ensures.state way old m c.args.most reached inside stands in
     let read = c.in-Ok-next_flight.ensures.sent in
     sent_answer core.own old core m reached inside stands c.args.peer c.args.server may (logs_kept core.own inside m reached) c.args.most c.in-Some.number c.len-forms.result
-    read.0 c.in-Ok.whose.now c.args.to c.in-Ok-next_flight.sent c.args.flights.now c.push.new.self c.set_out.new.lines (g.V.Vault.contents c.next_flight.new.own) to
-    some read.1 c.in-Ok.ensures.whose flights c.in-Some.ensures c.set_out.ensures read.2 c.len-forms.ensures c.in-Ok-push.ensures.ok c.next_flight.ensures.same
+    read.0 c.in-Ok.whose.now c.args.to c.in-Ok-next_flight.sent c.args.flights.now c.push.new.self c.set_flight.new.self (g.V.Vault.contents c.next_flight.new.own) to
+    some read.1 c.in-Ok.ensures.whose flights c.in-Some.ensures (record { queues = c.set_flight.ensures.queues; ids = c.set_flight.ensures.ids; forms = c.set_flight.ensures.forms; recorded = c.set_flight.ensures.recorded }) read.2 c.len-forms.ensures c.in-Ok-push.ensures.ok c.next_flight.ensures.same
