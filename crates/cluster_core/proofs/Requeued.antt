@@ -8,7 +8,7 @@ use Rattle.rep_types.specs.declared.state.QueueForms.{QueueForms}
 use Rattle.rep_vault.specs.Contents.{Contents}
 use Rattle.wal_roll.specs.Log.{wal}
 use Rattle.queue_storage.specs.declared.record.QueueRecord.{QueueRecord}
-use Rattle.queue_storage.specs.Queues.{Storage, is_queue as is_record, queue_at}
+use Rattle.queue_storage.specs.Queues.{Storage, is_queue as is_record, queue_at, AreApart}
 use Rattle.queue_storage.specs.Recorded.{Recorded}
 use Rattle.rep_model.specs.Keyed.{replace}
 use Rattle.rep_model.specs.State.{is_peer, is_queue}
@@ -67,6 +67,19 @@ at_replaced P Q p s new (q ∷ qs) u h n a = cond_both (is_record p s q) (new �
 
 pub record_numbers : (p s : ℕ) (qs : List QueueRecord) (q : QueueRecord) → queue_at p s qs ≡ Some q → (q.peer ≡ p) × (q.server ≡ s)
 record_numbers p s qs q e = let h = and_parts _ _ (found_passes (is_record p s) qs q e) in (eqb-true q.peer p h.0, eqb-true q.server s h.1)
+
+-- where no two of the state's queues are of one peer and one server, neither are memory's
+none_of_key : (q : QueueRecord) (qs : List QueueRecord) → AllByRecursion (λ (r : QueueRecord). ApartQueues (queue_of q) (queue_of r)) qs → queue_at q.peer q.server qs ≡ None
+none_of_key q [] a = refl
+none_of_key q (r ∷ rs) a = cond-false (is_record q.peer q.server r) (Some r) (queue_at q.peer q.server rs) (untrue (is_record q.peer q.server r) refl) ∙ none_of_key q rs a.1
+  where
+    untrue : (b : Bool) → is_record q.peer q.server r ≡ b → is_record q.peer q.server r ≡ false
+    untrue false e = e
+    untrue true e = let k = and_parts _ _ e in absurd (a.0 (sym (eqb-true r.peer q.peer k.0)) (sym (eqb-true r.server q.server k.1)))
+
+pub apart_of_unique : (qs : List QueueRecord) → UniqueQueues (map queue_of qs) → AreApart qs
+apart_of_unique [] u = tt
+apart_of_unique (q ∷ qs) u = (none_of_key q qs (unmapped (ApartQueues (queue_of q)) queue_of qs u.0), apart_of_unique qs u.1)
 
 -- ---- other peers and queues
 

@@ -33,6 +33,10 @@ start_count p s commits = length (server_commits s (take p.start commits))
 abbrev pub TellsLog : Server → ℕ → Type 0
 TellsLog srv l = (l ≡ srv.log) ⊎ (l ≡ srv.log + 1)
 
+-- the server may go on so, as the records of its queues tell it
+abbrev pub StillTells : Server → Server → List QueueRecord → Type 0
+StillTells srv next qs = AllByRecursion (λ (q : QueueRecord). q.server ≡ srv.number → TellsLog next q.log) qs
+
 -- the queue is what stands behind so many commits of its server, and its places stand there and where the peer started
 pub record IsAt (side : Side) (q : QueueRecord) : Type 0 where
   pub peer : Peer

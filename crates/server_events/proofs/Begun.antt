@@ -1,15 +1,26 @@
 -- A server's next log was made, and perhaps its record was put: memory and the store stand for the state as it was.
-use Rattle.std.proofs.Common.{ℕ, ◌+◌, ◌<◌, ◌≡◌, ◌^◌, inl, inr, Bool, false, List, [], ◌∷◌, map, find, Option, Some, None, refl, ap, sym, ◌∙◌, subst, arith}
+use Rattle.std.proofs.Common.{decimal, ℕ, ◌+◌, ◌<◌, ◌≡◌, ◌==◌, ◌^◌, inl, inr, Bool, false, List, [], ◌∷◌, map, filter, find, Option, Some, None, refl, ap, sym, ◌∙◌, subst, arith, eqb-true, eq-eqb}
 use Rattle.std.specs.Prelude.{IfSome}
-use Rattle.std.proofs.lemmas.Bool.{cases_eq}
+use Rattle.std.specs.List.{AllByRecursion}
+use Rattle.std.proofs.lemmas.Bool.{cases_eq, cond_both, true≢false}
 use Rattle.std.proofs.lemmas.Option.{same_Some, none-some}
 use Rattle.rep_types.specs.declared.ids.Cluster.{Cluster}
-use Rattle.rep_vault.specs.Contents.{File, empty_file, Contents, changed, with_records}
+use Rattle.rep_vault.specs.declared.store.Change.{Change}
+use Rattle.rep_vault.specs.Contents.{File, empty_file, Contents, set_record, changed, with_records}
 use Rattle.rep_vault.proofs.Frames.{files_records, stands_records, records_records, record_here}
+use Rattle.queue_storage.specs.declared.record.QueueRecord.{QueueRecord}
+use Rattle.queue_storage.specs.Changes.{lists_logs, log_changes}
+use Rattle.queue_storage.specs.Ids.{last_pushed}
+use Rattle.queue_storage.specs.Queues.{Storage, logged}
+use Rattle.queue_storage.specs.Recorded.{Recorded}
+use Rattle.queue_storage.specs.Texts.{queue_change}
+use Rattle.queue_storage.proofs.Keys.{server_beside}
+use Rattle.queue_storage.proofs.Puts.{map_aside}
 use Rattle.wal_roll.specs.Log.{LogValue, wal, log_name, IsLog, IsWriter}
 use Rattle.wal_roll.specs.Steps.{MayCreate, OnlyFile, new_log}
 use Rattle.region_server.specs.Host.{IsHost}
 use Rattle.rep_model.specs.State.{is_server}
+use Rattle.rep_model.specs.LogEvents.{next_log}
 use Rattle.rep_model.specs.declared.machine.Side.{Side}
 use Rattle.rep_model.specs.declared.machine.Server.{Server}
 use Rattle.cluster_core.specs.declared.parts.ClusterCore.{ClusterCore}
@@ -18,11 +29,14 @@ use Rattle.cluster_core.specs.Changes.{setting}
 use Rattle.cluster_core.specs.Entries.{log_entries}
 use Rattle.cluster_core.specs.Logs.{log_of, IsFresh, IsSealedLog, Current}
 use Rattle.cluster_core.specs.Lookups.{HasStation}
+use Rattle.cluster_core.specs.Queues.{queue_of, TellsLog, StillTells, IsAt, QueuesStand}
 use Rattle.cluster_core.specs.Stands.{is_station, ServerTold, StationStands, StationAt, RecordsStand, Stands}
 use Rattle.cluster_core.specs.Texts.{OfServer, key_text, log_text}
 use Rattle.cluster_core.proofs.Frames.{station_same}
 use Rattle.cluster_core.proofs.RecordsPut.{Put, change_of, records_put, records_kept}
-use Rattle.cluster_core.proofs.Staying.{number_is}
+use Rattle.cluster_core.proofs.QueuePuts.{put_of, queues_put, queues_due}
+use Rattle.cluster_core.proofs.Staying.{number_is, recorded_same}
+use Rattle.rep_laws.proofs.Lists.{All_mapped, All_weaker}
 use Rattle.cluster_core.proofs.Synced.{files_apart, host_stands}
 
 -- an empty log's file is an empty file
@@ -54,6 +68,57 @@ pub record IsBegun (own : Cluster) (c : Contents) (core : ClusterCore) (side : S
   pub host : IsHost c st.host (log_of side.commits srv)
   pub writer : IsWriter c w (new_log s (srv.log + 1))
   pub told : c.records (key_text (OfServer s)) ≡ Some (log_text (srv.log + 1) false)
+  pub tells : StillTells srv (next_log false srv) core.queues.queues
+
+-- memory's queues of the server name its next log, and else they are as they were
+module _ (core : ClusterCore) (side : Side) (s : ℕ) (srv : Server) (known : find (is_server s) side.servers ≡ Some srv) (number : srv.number ≡ s) (queues : Storage)
+    (are : queues.queues ≡ map (logged s (srv.log + 1)) core.queues.queues) (ids : queues.ids ≡ core.queues.ids) (forms : queues.forms ≡ core.queues.forms) where
+  same_queue : (q : QueueRecord) → queue_of (logged s (srv.log + 1) q) ≡ queue_of q
+  same_queue q = cond_both (q.server == s) (record q { log = srv.log + 1 }) q (λ r. queue_of r ≡ queue_of q) (λ _. refl) (λ _. refl)
+
+  same_queues : (qs : List QueueRecord) → map queue_of (map (logged s (srv.log + 1)) qs) ≡ map queue_of qs
+  same_queues [] = refl
+  same_queues (q ∷ qs) = λ i. same_queue q i ∷ same_queues qs i
+
+  -- the next log may be told
+  logged_at : (q : QueueRecord) → IsAt side q → IsAt side (logged s (srv.log + 1) q)
+  logged_at q k = cond_both (q.server == s) (record q { log = srv.log + 1 }) q (IsAt side)
+      (λ t. record {
+        peer = k.peer;
+        known = k.known;
+        server = k.server;
+        there = k.there;
+        within = k.within;
+        queued = k.queued;
+        starts = k.starts;
+        stands = k.stands;
+        log = inr (ap (λ (v : Server). v.log + 1) (same_Some srv k.server (sym known ∙ (ap (λ n. find (is_server n) side.servers) (sym (eqb-true q.server s t)) ∙ k.there))));
+      })
+      (λ _. k)
+
+  all_logged : (qs : List QueueRecord) → AllByRecursion (IsAt side) qs → AllByRecursion (IsAt side) (map (logged s (srv.log + 1)) qs)
+  all_logged qs a = All_mapped (IsAt side) (logged s (srv.log + 1)) qs (All_weaker logged_at qs a)
+
+  pub queues_logged : QueuesStand core side → QueuesStand (record core { queues = queues }) side
+  queues_logged k = record {
+    peers = k.peers;
+    plain = k.plain;
+    queues = ap (map queue_of) are ∙ (same_queues core.queues.queues ∙ k.queues);
+    at = subst (AllByRecursion (IsAt side)) (sym are) (all_logged core.queues.queues k.at);
+    last = λ p r. ap (last_pushed p r) ids ∙ k.last p r;
+    forms = forms ∙ k.forms;
+  }
+
+  tells_next : (q : QueueRecord) → (logged s (srv.log + 1) q).server ≡ srv.number → TellsLog (next_log false srv) (logged s (srv.log + 1) q).log
+  tells_next q = cond_both (q.server == s) (record q { log = srv.log + 1 }) q (λ r. r.server ≡ srv.number → TellsLog (next_log false srv) r.log) (λ _ _. inl refl)
+      (λ f e. absurd (true≢false (sym (eq-eqb q.server s (e ∙ number)) ∙ f)))
+
+  pub logged_tell : StillTells srv (next_log false srv) queues.queues
+  logged_tell = subst (StillTells srv (next_log false srv)) (sym are) (All_mapped _ (logged s (srv.log + 1)) core.queues.queues (all_of core.queues.queues))
+    where
+      all_of : (qs : List QueueRecord) → AllByRecursion (λ (q : QueueRecord). (logged s (srv.log + 1) q).server ≡ srv.number → TellsLog (next_log false srv) (logged s (srv.log + 1) q).log) qs
+      all_of [] = tt
+      all_of (q ∷ qs) = (tells_next q, all_of qs)
 
 module _ (own : Cluster) (c : Contents) (core : ClusterCore) (side : Side) (s at : ℕ) (here : HasStation c side core.stations s at) (stands : Stands own c core side) where
   fresh_next : IsFresh (c.files wal (log_name s (here.server.log + 1)))
@@ -101,17 +166,17 @@ module _ (own : Cluster) (c : Contents) (core : ClusterCore) (side : Side) (s at
       | inr n ↦ station_same c c' side t (find (is_station t) core.stations) (find (is_server t) side.servers) (number_is t side.servers) (λ l. others t l (λ e _. n e)) (stands.servers t)
     ]
 
-    begun : c'.stands ≡ c.stands → RecordsStand c' side → Stands own c' core side
-    begun folders records = record {
+    begun : (queues : Storage) → QueuesStand (record core { queues = queues }) side → Recorded c' queues → c'.stands ≡ c.stands → RecordsStand c' side → Stands own c' (record core { queues = queues }) side
+    begun queues stand recorded folders records = record {
       own_is = stands.own_is;
       folder = ap (λ (f : List ℕ → Bool). f wal) folders ∙ stands.folder;
       regions = stands.regions;
       index = stands.index;
       servers = servers_kept;
-      queues = stands.queues;
+      queues = stand;
+      recorded = recorded;
       records = records;
       framed = stands.framed;
-      forms = stands.forms;
       link = stands.link;
     }
 
@@ -125,10 +190,11 @@ module _ (own : Cluster) (c : Contents) (core : ClusterCore) (side : Side) (s at
     fresh_made = inr (made_empty s (here.server.log + 1) (mid.files wal (log_name s (here.server.log + 1))) writer.file)
 
     pub log_made : Stands own mid core side
-    log_made = begun sealed mid files_made fresh_made frame.stands (records_kept c mid side side frame.records stands.records (λ k _ o h. h))
+    log_made = begun sealed mid files_made fresh_made core.queues stands.queues (recorded_same c mid core.queues core.queues frame.records refl stands.recorded) frame.stands (records_kept c mid side side frame.records stands.records (λ k _ o h. h))
 
     -- and its record put
-    module _ (c' : Contents) (put : c' ≡ with_records (setting (OfServer s) (log_text (here.server.log + 1) false) ∷ []) mid) where
+    module _ (c' : Contents) (queues : Storage) (put : c' ≡ with_records (setting (OfServer s) (log_text (here.server.log + 1) false) ∷ log_changes s (here.server.log + 1) core.queues.queues) mid)
+        (are : queues.queues ≡ map (logged s (here.server.log + 1)) core.queues.queues) (ids : queues.ids ≡ core.queues.ids) (forms : queues.forms ≡ core.queues.forms) (recorded : Recorded c' queues) where
       files_are : c'.files ≡ mid.files
       files_are = ap (λ (d : Contents). d.files) put ∙ files_records _ mid
 
@@ -141,19 +207,32 @@ module _ (own : Cluster) (c : Contents) (core : ClusterCore) (side : Side) (s at
       fresh_put : IsFresh (c'.files wal (log_name s (here.server.log + 1)))
       fresh_put = subst IsFresh (same_file s (here.server.log + 1)) fresh_made
 
+      abbrev listed : List QueueRecord
+      listed = filter (lists_logs s) (map (logged s (here.server.log + 1)) core.queues.queues)
+
       abbrev puts : List Put
-      puts = record { key = OfServer s; value = Some (log_text (here.server.log + 1) false) } ∷ []
+      puts = record { key = OfServer s; value = Some (log_text (here.server.log + 1) false) } ∷ map put_of (filter (lists_logs s) (map (logged s (here.server.log + 1)) core.queues.queues))
+
+      puts_are : setting (OfServer s) (log_text (here.server.log + 1) false) ∷ log_changes s (here.server.log + 1) core.queues.queues
+          ≡ map change_of (record { key = OfServer s; value = Some (log_text (here.server.log + 1) false) } ∷ map put_of (filter (lists_logs s) (map (logged s (here.server.log + 1)) core.queues.queues)))
+      puts_are = ap (λ (xs : List Change). setting (OfServer s) (log_text (here.server.log + 1) false) ∷ xs) (sym (queues_put (filter (lists_logs s) (map (logged s (here.server.log + 1)) core.queues.queues))))
 
       records_are : c'.records ≡ changed (map change_of puts) c.records
-      records_are = ap (λ (d : Contents). d.records) put ∙ (records_records _ mid ∙ ap (λ (f : List ℕ → Option (List ℕ)). changed (map change_of puts) f) frame.records)
+      records_are = ap (λ (d : Contents). d.records) put ∙ (records_records _ mid ∙ (λ i. changed (puts_are i) (frame.records i)))
 
-      pub begun_all : IsBegun own c' core side here.station here.server w s
+      -- the queues' records are under keys of their own
+      queues_aside : (qs : List QueueRecord) (f : List ℕ → Option (List ℕ)) → changed (map queue_change qs) f (key_text (OfServer s)) ≡ f (key_text (OfServer s))
+      queues_aside qs f = map_aside queue_change qs f (key_text (OfServer s)) (λ q e. (server_beside (decimal s)).queue q.peer q.server (sym e))
+
+      pub begun_all : IsBegun own c' (record core { queues = queues }) side here.station here.server w s
       begun_all = record {
-        stands = begun sealed c' files_put fresh_put (ap (λ (d : Contents). d.stands) put ∙ (stands_records _ mid ∙ frame.stands))
+        stands = begun sealed c' files_put fresh_put queues (queues_logged core side s here.server here.known here.number queues are ids forms stands.queues) recorded (ap (λ (d : Contents). d.stands) put ∙ (stands_records _ mid ∙ frame.stands))
             (records_put c c' side side puts records_are stands.records
-            (record { small = small; owed = subst (λ (p : Option Server). ServerTold (Some (log_text (here.server.log + 1) false)) p) (sym here.known) (told_next here.server) }, tt) (λ k _ _ o h. h));
+            (record { small = small; owed = subst (λ (p : Option Server). ServerTold (Some (log_text (here.server.log + 1) false)) p) (sym here.known) (told_next here.server) }, queues_due side listed) (λ k _ _ o h. h));
         station = station_kept sealed c' files_put fresh_put;
         host = host_kept sealed c' files_put fresh_put;
         writer = record { same = writer.same; file = subst (λ (o : Option File). IsLog o (new_log s (here.server.log + 1))) (same_file s (here.server.log + 1)) writer.file };
-        told = ap (λ (f : List ℕ → Option (List ℕ)). f (key_text (OfServer s))) records_are ∙ record_here (key_text (OfServer s)) (Some (log_text (here.server.log + 1) false)) c.records;
+        told = ap (λ (d : Contents). d.records (key_text (OfServer s))) put ∙ (ap (λ (f : List ℕ → Option (List ℕ)). f (key_text (OfServer s))) (records_records _ mid)
+            ∙ (queues_aside listed (set_record (key_text (OfServer s)) (Some (log_text (here.server.log + 1) false)) mid.records) ∙ record_here (key_text (OfServer s)) (Some (log_text (here.server.log + 1) false)) mid.records));
+        tells = logged_tell core side s here.server here.known here.number queues are ids forms;
       }

@@ -1,5 +1,5 @@
 -- The row of a server that dies, and what it leaves.
-use Rattle.std.proofs.Common.{ℕ, suc, ◌+◌, ◌≡◌, ◌==◌, inl, Bool, true, false, List, [], map, find, set, slice_get, Some, None, refl, ap, sym, ◌∙◌, subst, arith, append-nil, eqb-true}
+use Rattle.std.proofs.Common.{ℕ, ◌≤◌, suc, ◌+◌, ◌≡◌, ◌==◌, inl, Bool, true, false, List, [], map, find, set, slice_get, Some, None, refl, ap, sym, ◌∙◌, subst, arith, append-nil, eqb-true}
 use Rattle.std.proofs.lemmas.Option.{slice_get-map}
 use Rattle.rep_types.specs.declared.ids.Cluster.{Cluster}
 use Rattle.rep_types.specs.declared.refusal.Refusal.TheVariants as refusal
@@ -40,7 +40,7 @@ use Rattle.cluster_core.proofs.Settling.{left_with, of_left, beside_left, flight
 use Rattle.cluster_core.proofs.Synced.{station_set, index_same}
 use Rattle.cluster_core.proofs.Telling.{told_from, pending_newly_told}
 use Rattle.cluster_core.proofs.Tracing.{number_at}
-use Rattle.cluster_core.proofs.Turning.{Turns, TurnsCore, owes_turned, turned}
+use Rattle.cluster_core.proofs.Turning.{Turns, TurnsCore, tells_still, owes_turned, turned}
 use Rattle.server_events.specs.Crashes.{dead_station, all_lost, AreNumbered}
 use Rattle.server_events.proofs.RegionsLost.{lost_side, regions_lost}
 use Rattle.server_events.proofs.Untold.{ArePlain, nothing_waits, pending_told}
@@ -52,6 +52,9 @@ dead srv = record srv { live = false }
 
 abbrev after : Cluster → Server → Machine → Machine
 after own srv m = left_with own (lost_side srv.number (standing_so (dead srv) (of own m))) (tell_waiting own (λ t log. t == srv.number) (λ _. told.Doubtful) (doubt_pending srv.pending m.tickets)) m
+
+no_lower : (n : ℕ) → n ≤ n
+no_lower n = omega arith
 
 module _ (own : Cluster) (s : ℕ) (m : Machine) where
   pub no_server : server_of own s m ≡ None → refusal_of (crash_plan own s m) ≡ Some refusal.NoServer
@@ -78,7 +81,7 @@ module _ (own : Cluster) (c : Contents) (core : ClusterCore) (side : Side) (s at
   known = subst (λ k. find (is_server k) side.servers ≡ Some here.server) (sym here.number) here.known
 
   side_turned : Turns side (standing_so (dead here.server) side) here.server (dead here.server) []
-  side_turned = record { found = known; number = refl; servers = refl; commits = sym (append-nil side.commits); tables = refl; regions = refl; peers = refl; queues = refl; forms = refl; link = refl }
+  side_turned = record { found = known; number = refl; rises = no_lower here.server.log; servers = refl; commits = sym (append-nil side.commits); tables = refl; regions = refl; peers = refl; queues = refl; forms = refl; link = refl }
 
   core_turned : here.station.host.log.server ≡ s → TurnsCore core (record core { stations = set core.stations at (dead_station here.station) }) here.server.number (dead_station here.station)
   core_turned number =
@@ -88,8 +91,7 @@ module _ (own : Cluster) (c : Contents) (core : ClusterCore) (side : Side) (s at
         own = refl;
         map = refl;
         peers = refl;
-        lines = refl;
-        forms = refl;
+        queues = refl;
         turned = subst (λ k. find (is_station k) (set core.stations at st) ≡ Some st) (sym here.number) all.0;
         others = λ t n. all.1 t (λ e. n (here.number ∙ e));
       }
@@ -114,6 +116,7 @@ module _ (own : Cluster) (c : Contents) (core : ClusterCore) (side : Side) (s at
       let after : Side = standing_so (dead srv) side in
       turned own c c core (record core { stations = set core.stations at st }) side after srv (dead srv) st [] stands o side_turned
       (core_turned (eqb-true here.station.host.log.server s (found_passes (is_station s) core.stations here.station here.found))) tt tt refl (λ t n l. refl) station_dead (index_same core.index side srv (dead srv) known refl refl stands.index)
+      (tells_still side srv (dead srv) core.queues.queues known refl stands.queues.at) stands.recorded
       (records_kept c c side after refl stands.records (λ key small. owes_turned side after srv (dead srv) [] side_turned tt key (inl (λ w q. q))))
 
 -- the map's regions are numbered as those of the side

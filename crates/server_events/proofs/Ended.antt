@@ -1,5 +1,5 @@
 -- A server's log was sealed, and the next one stands in its place: what memory and the store stand for then.
-use Rattle.std.proofs.Common.{ℕ, ◌+◌, ◌<◌, ◌≡◌, ◌≢◌, inl, inr, Bool, true, false, List, [], ◌++◌, find, set, take, length, Option, Some, None, refl, ap, sym, ◌∙◌, subst, arith}
+use Rattle.std.proofs.Common.{ℕ, ◌+◌, ◌<◌, ◌≤◌, ◌≡◌, ◌≢◌, inl, inr, Bool, true, false, List, [], ◌++◌, find, set, take, length, Option, Some, None, refl, ap, sym, ◌∙◌, subst, arith}
 use Rattle.std.proofs.lemmas.Bool.{cases_eq}
 use Rattle.rep_types.specs.declared.ids.Cluster.{Cluster}
 use Rattle.rep_vault.specs.Contents.{File, Contents}
@@ -20,8 +20,9 @@ use Rattle.cluster_core.specs.Entries.{coming, log_entries}
 use Rattle.cluster_core.specs.Logs.{log_of, IsFresh, IsSealedLog, Current}
 use Rattle.cluster_core.specs.Lookups.{HasStation}
 use Rattle.cluster_core.specs.Orderly.{IsOrderly}
-use Rattle.cluster_core.specs.Stands.{waiting, number_of, StationStands, ServerTold, RecordsStand, Stands}
-use Rattle.cluster_core.specs.Texts.{RecordKey, OfTable, OfRegion, OfBarriers, OfServer, OfPeer, key_text, log_text}
+use Rattle.cluster_core.specs.Queues.{StillTells}
+use Rattle.cluster_core.specs.Stands.{waiting, StationStands, ServerTold, RecordsStand, Stands}
+use Rattle.cluster_core.specs.Texts.{RecordKey, OfTable, OfRegion, OfBarriers, OfServer, OfPeer, OfQueue, OfLast, OfForms, key_text, log_text}
 use Rattle.cluster_core.proofs.RecordsPut.{Owes, owed_at, at_owed}
 use Rattle.cluster_core.proofs.Turning.{server_found, owes_turned}
 use Rattle.server_events.specs.Kept.{HasKept}
@@ -40,6 +41,9 @@ beyond n l h = omega arith
 
 above_is_apart : (n l : ℕ) → n + 1 < l → n ≡ l → ⊥
 above_is_apart n l h e = omega arith
+
+next_higher : (n : ℕ) → n ≤ n + 1
+next_higher n = omega arith
 
 not_next : (n : ℕ) → n ≡ n + 1 → ⊥
 not_next n e = omega arith
@@ -107,7 +111,7 @@ module _ (own : Cluster) (old new : Contents) (core core' : ClusterCore) (side :
     -- a record that isn't the server's is as it was
     stays_owed : (j : RecordKey) → (j ≡ OfServer here.server.number → ⊥) → (p : Option (List ℕ)) → Owes side j p → Owes (committed_side here.server (next_log false here.server) (take (length kept.entries) here.server.pending) side) j p
     stays_owed j other p q =
-        owes_turned side now srv (next_log false srv) front (turns own old new core core' side s at here kept stands o k (next_log false srv) refl) (placed own old new core core' side s at here kept stands o k) j (inr other) p q
+        owes_turned side now srv (next_log false srv) front (turns own old new core core' side s at here kept stands o k (next_log false srv) refl (next_higher srv.log)) (placed own old new core core' side s at here kept stands o k) j (inr other) p q
 
     -- the server's record tells its next log already
     owed_now : (j : RecordKey) → Owes side j (old.records (key_text j)) → Owes (committed_side here.server (next_log false here.server) (take (length kept.entries) here.server.pending) side) j (old.records (key_text j))
@@ -127,15 +131,25 @@ module _ (own : Cluster) (old new : Contents) (core core' : ClusterCore) (side :
       where
         no_server : OfPeer p ≡ OfServer here.server.number → ⊥
         no_server e = cc
+    owed_now (OfQueue p n) q = tt
+    owed_now (OfLast p n) q = tt
+    owed_now OfForms q = tt
     owed_now (OfServer t) q = elim (cases_eq s t) [
       | inl e ↦ subst (λ n. ServerTold (old.records (key_text (OfServer n))) (find (is_server n) now.servers)) e
           (subst (λ (p : Option Server). ServerTold (old.records (key_text (OfServer s))) p) (sym found_now) (inl told))
-      | inr apart ↦ stays_owed (OfServer t) (λ e. apart (sym here.number ∙ sym (ap number_of e))) (old.records (key_text (OfServer t))) q
+      | inr apart ↦ stays_owed (OfServer t) (λ e. apart (sym here.number ∙ sym (same_server e))) (old.records (key_text (OfServer t))) q
     ]
       where
+        server_in : RecordKey → ℕ
+        server_in (OfServer n) = n
+        server_in _ = 0
+
+        same_server : {t n : ℕ} → OfServer t ≡ OfServer n → t ≡ n
+        same_server e = ap server_in e
+
         found_now : find (is_server s) (replace (is_server here.server.number) (next_log false here.server) side.servers) ≡ Some (next_log false here.server)
         found_now = subst (λ n. find (is_server n) (replace (is_server here.server.number) (next_log false here.server) side.servers) ≡ Some (next_log false here.server)) here.number
-            (server_found side now srv (next_log false srv) front (turns own old new core core' side s at here kept stands o k (next_log false srv) refl))
+            (server_found side now srv (next_log false srv) front (turns own old new core core' side s at here kept stands o k (next_log false srv) refl (next_higher srv.log)))
 
     records_now : RecordsStand new (committed_side here.server (next_log false here.server) (take (length kept.entries) here.server.pending) side)
     records_now = record {
@@ -143,5 +157,5 @@ module _ (own : Cluster) (old new : Contents) (core core' : ClusterCore) (side :
       only = λ q h. stands.records.only q (subst (λ (f : List ℕ → Option (List ℕ)). f q ≢ None) k.only.records h);
     }
 
-    pub rolled_on : Stands own new (record core { stations = set core.stations at (record here.station { host = new_host next }); index = k.index }) (committed_side here.server (next_log false here.server) (take (length kept.entries) here.server.pending) side)
-    rolled_on = left own old new core core' side s at here kept stands o k (next_log false srv) st refl refl next_is station_now records_now
+    pub rolled_on : StillTells here.server (next_log false here.server) core.queues.queues → Stands own new (record core { stations = set core.stations at (record here.station { host = new_host next }); index = k.index }) (committed_side here.server (next_log false here.server) (take (length kept.entries) here.server.pending) side)
+    rolled_on tells = left own old new core core' side s at here kept stands o k (next_log false srv) st refl (next_higher srv.log) refl next_is station_now tells records_now

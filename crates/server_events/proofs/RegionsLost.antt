@@ -16,10 +16,10 @@ use Rattle.rep_laws.proofs.Finding.{find_changed}
 use Rattle.rep_laws.proofs.Synced.{map_same}
 use Rattle.cluster_core.specs.declared.parts.ClusterCore.{ClusterCore}
 use Rattle.cluster_core.specs.Memory.{map_of, map_region, trace_of}
-use Rattle.cluster_core.specs.Stands.{number_of, Stands}
-use Rattle.cluster_core.specs.Texts.{RecordKey, OfTable, OfRegion, OfBarriers, OfServer, OfPeer, hosted_text, opens_text}
+use Rattle.cluster_core.specs.Stands.{IsSmall, Stands}
+use Rattle.cluster_core.specs.Texts.{RecordKey, OfTable, OfRegion, OfBarriers, OfServer, OfPeer, OfQueue, OfLast, OfForms, hosted_text, opens_text}
 use Rattle.cluster_core.proofs.RecordsPut.{Owes, records_kept}
-use Rattle.cluster_core.proofs.Staying.{servers_kept, lines_kept}
+use Rattle.cluster_core.proofs.Staying.{is_same_server, servers_kept, queues_beside}
 use Rattle.server_events.specs.Crashes.{lost_region, all_lost}
 
 abbrev lost : ℕ → Hosted → Hosted
@@ -69,12 +69,15 @@ module _ (own : Cluster) (c : Contents) (core : ClusterCore) (side : Side) (s : 
   trace_same : (h : Hosted) → trace_of side.commits side.servers (lost s h) ≡ trace_of side.commits side.servers h
   trace_same h = unchanged (trace_of side.commits side.servers) s h (λ _. refl) (λ _. refl) (λ _. refl)
 
-  others : (k : RecordKey) → number_of k < 2 ^ 32 → (o : Option (List ℕ)) → Owes side k o → Owes after k o
+  others : (k : RecordKey) → IsSmall k → (o : Option (List ℕ)) → Owes side k o → Owes after k o
   others (OfTable t) small o e = e
   others (OfRegion k) small o e = e ∙ as_before hosted_text region_same k
   others (OfBarriers k) small o e = e ∙ as_before (opens_text side.commits) opens_same k
   others (OfServer t) small o e = e
   others (OfPeer q) small o e = e
+  others (OfQueue q n) small o e = tt
+  others (OfLast q n) small o e = tt
+  others OfForms small o e = tt
 
   pub regions_lost : Stands own c (record core { map = all_lost s core.map }) (lost_side s side)
   regions_lost = record {
@@ -87,9 +90,9 @@ module _ (own : Cluster) (c : Contents) (core : ClusterCore) (side : Side) (s : 
       cells = stands.index.cells;
     };
     servers = servers_kept c c side after core.stations refl refl refl stands.servers;
-    queues = record { peers = stands.queues.peers; plain = stands.queues.plain; queues = stands.queues.queues; at = lines_kept side after core.lines refl (λ _ _ e. e) stands.queues.at };
+    queues = queues_beside core (record core { map = all_lost s core.map }) side after refl refl refl refl refl refl (is_same_server side.servers) stands.queues;
+    recorded = stands.recorded;
     records = records_kept c c side after refl stands.records others;
     framed = stands.framed;
-    forms = stands.forms;
     link = stands.link;
   }

@@ -1,9 +1,13 @@
 -- A roll up to the seal, by what its calls told: the number of the next log, its file, and its record.
-use Rattle.std.proofs.Common.{ℕ, ◌+◌, ◌<◌, ◌≡◌, ◌^◌, true, [], ◌∷◌, Some, slice_get, false, ap, sym, ◌∙◌, subst}
+use Rattle.std.proofs.Common.{decimal, ℕ, ◌+◌, ◌<◌, ◌≡◌, ◌^◌, true, List, [], ◌∷◌, ◌++◌, map, Some, slice_get, false, ap, sym, ◌∙◌, subst}
 use Rattle.std.proofs.lemmas.Option.{same_Some}
 use Rattle.rep_types.specs.declared.ids.Cluster.{Cluster}
 use Rattle.rep_vault.specs.declared.store.Change.{Change}
 use Rattle.rep_vault.specs.Contents.{Contents, with_records}
+use Rattle.queue_storage.specs.Changes.{log_changes}
+use Rattle.queue_storage.specs.Queues.{Storage, logged}
+use Rattle.queue_storage.specs.Recorded.{Recorded, AreBeside}
+use Rattle.queue_storage.proofs.Keys.{server_beside}
 use Rattle.wal_roll.specs.Log.{LogValue, wal, log_name, IsWriter}
 use Rattle.wal_roll.specs.Steps.{MayCreate, OnlyFile, new_log}
 use Rattle.region_server.specs.Host.{Stands as HostStands}
@@ -53,12 +57,16 @@ module _ {way : Route} (own : Cluster) (c : Contents) (core : ClusterCore) (s at
           ap (λ (v : LogValue). v.server) writer.same
           ∙ (sym here.number ∙ (sym (ap (λ (v : LogValue). v.server) is_open.host.writer.same) ∙ ap (λ (x : Station). x.host.log.server) (same_Some here.station st (sym here.there ∙ there))))
 
-      module _ (c' : Contents) (change : Change) (text : change ≡ setting (OfServer s) (log_text log false)) (put : c' ≡ with_records (change ∷ []) mid) where
-        put_is : c' ≡ with_records (setting (OfServer s) (log_text (here.server.log + 1) false) ∷ []) mid
-        put_is = put ∙ (ap (λ (x : Change). with_records (x ∷ []) mid) text ∙ ap (λ n. with_records (setting (OfServer s) (log_text n false) ∷ []) mid) number)
+      module _ (c' : Contents) (queues : Storage) (with : List Change) (text : with ≡ setting (OfServer s) (log_text log false) ∷ []) (put : c' ≡ with_records (with ++ log_changes s log core.queues.queues) mid)
+          (are : queues.queues ≡ map (logged s log) core.queues.queues) (ids : queues.ids ≡ core.queues.ids) (forms : queues.forms ≡ core.queues.forms) (recorded : Recorded mid core.queues → AreBeside with → Recorded c' queues) where
+        put_is : c' ≡ with_records (setting (OfServer s) (log_text (here.server.log + 1) false) ∷ log_changes s (here.server.log + 1) core.queues.queues) mid
+        put_is = put ∙ (ap (λ (xs : List Change). with_records (xs ++ log_changes s log core.queues.queues) mid) text ∙ ap (λ n. with_records (setting (OfServer s) (log_text n false) ∷ log_changes s n core.queues.queues) mid) number)
 
-        pub is_begun : IsBegun own c' core (of own m) here.station here.server w s
-        is_begun = begun_all own c core (of own m) s at here stands is_open.sealed small few mid w frame_is writer_is c' put_is
+        now : Recorded c' queues
+        now = recorded is_made.recorded (subst AreBeside (sym text) (server_beside (decimal s), tt))
+
+        pub is_begun : IsBegun own c' (record core { queues = queues }) (of own m) here.station here.server w s
+        is_begun = begun_all own c core (of own m) s at here stands is_open.sealed small few mid w frame_is writer_is c' queues put_is (are ∙ ap (λ n. map (logged s n) core.queues.queues) number) ids forms now
 
         pub host_stands : (st : Station) → slice_get core.stations at ≡ Some st → HostStands c' st.host
         host_stands st there = subst (λ (x : Station). HostStands c' x.host) (same_Some here.station st (sym here.there ∙ there)) (log_of (of own m).commits here.server, is_begun.host)

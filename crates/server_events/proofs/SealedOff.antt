@@ -1,10 +1,11 @@
 -- A dead server's log was sealed, and none follows: what memory and the store stand for then.
-use Rattle.std.proofs.Common.{ℕ, ◌<◌, ◌≡◌, inl, true, false, List, [], ◌++◌, set, take, length, refl, ap, sym, ◌∙◌, subst, arith}
+use Rattle.std.proofs.Common.{ℕ, ◌≤◌, find, Some, ◌<◌, ◌≡◌, inl, true, false, List, [], ◌++◌, set, take, length, refl, ap, sym, ◌∙◌, subst, arith}
 use Rattle.rep_types.specs.declared.ids.Cluster.{Cluster}
 use Rattle.rep_vault.specs.Contents.{Contents}
 use Rattle.wal_roll.specs.Log.{writer_of}
 use Rattle.wal_roll.specs.Kept.{kept_log}
 use Rattle.region_server.specs.declared.host.Kept.{Kept}
+use Rattle.rep_model.specs.State.{is_server}
 use Rattle.rep_model.specs.declared.machine.Side.{Side}
 use Rattle.rep_model.specs.declared.machine.Server.{Server}
 use Rattle.rep_model.specs.declared.machine.Commit.{Commit}
@@ -18,7 +19,7 @@ use Rattle.cluster_core.specs.Lookups.{HasStation}
 use Rattle.cluster_core.specs.Orderly.{IsOrderly}
 use Rattle.cluster_core.specs.Stands.{waiting, StationStands, RecordsStand, Stands}
 use Rattle.cluster_core.proofs.RecordsPut.{records_kept}
-use Rattle.cluster_core.proofs.Turning.{owes_turned}
+use Rattle.cluster_core.proofs.Turning.{tells_still, owes_turned}
 use Rattle.server_events.specs.Kept.{sealed_host, HasKept}
 use Rattle.server_events.specs.SealedLog.{sealed_server}
 use Rattle.server_events.proofs.Shut.{placed, turns, other_file, log_kept, sealed_log, earlier_log, left}
@@ -28,6 +29,9 @@ below_is_apart n l h e = omega arith
 
 above_is_apart : (n l : ℕ) → n < l → n ≡ l → ⊥
 above_is_apart n l h e = omega arith
+
+no_lower : (n : ℕ) → n ≤ n
+no_lower n = omega arith
 
 module _ (own : Cluster) (old new : Contents) (core core' : ClusterCore) (side : Side) (s at : ℕ) (here : HasStation old side core.stations s at) (kept : Kept)
     (stands : Stands own old core side) (o : IsOrderly side) (k : HasKept old core side here.server here.station at new core' kept) (dead : here.server.live ≡ false) where
@@ -71,8 +75,9 @@ module _ (own : Cluster) (old new : Contents) (core core' : ClusterCore) (side :
 
   records_now : RecordsStand new (committed_side here.server (sealed_server here.server) (take (length kept.entries) here.server.pending) side)
   records_now = records_kept old new side now k.only.records stands.records (λ j small'.
-      owes_turned side now srv (sealed_server srv) front (turns own old new core core' side s at here kept stands o k (sealed_server srv) refl) (placed own old new core core' side s at here kept stands o k) j (inl (λ w q. q)))
+      owes_turned side now srv (sealed_server srv) front (turns own old new core core' side s at here kept stands o k (sealed_server srv) refl (no_lower srv.log)) (placed own old new core core' side s at here kept stands o k) j (inl (λ w q. q)))
 
   pub sealed_off : Stands own new (record core { stations = set core.stations at (record here.station { host = sealed_host (length kept.entries) (log_of side.commits here.server) here.station.host; sealed = true }); index = k.index })
       (committed_side here.server (sealed_server here.server) (take (length kept.entries) here.server.pending) side)
-  sealed_off = left own old new core core' side s at here kept stands o k (sealed_server srv) st refl refl here.number station_now records_now
+  sealed_off = left own old new core core' side s at here kept stands o k (sealed_server srv) st refl (no_lower srv.log) refl here.number station_now
+      (tells_still side srv (sealed_server srv) core.queues.queues (subst (λ n. find (is_server n) side.servers ≡ Some here.server) (sym here.number) here.known) refl stands.queues.at) records_now

@@ -1,5 +1,5 @@
 -- A new server and its first log.
-use Rattle.std.proofs.Common.{ℕ, ◌<◌, ◌≤◌, ◌^◌, ◌≡◌, ◌==◌, ◌⊎◌, ◌&&◌, inl, inr, cond, not, Bool, true, false, List, [], ◌∷◌, ◌++◌, Result, Ok, map, find, filter, drop, position, Option, Some, None, refl, ap, sym, ◌∙◌, subst, arith, eq-eqb, ne_eqb}
+use Rattle.std.proofs.Common.{decimal, ℕ, zero, suc, ◌<◌, ◌≤◌, ◌^◌, ◌≡◌, ◌==◌, ◌⊎◌, ◌&&◌, inl, inr, cond, not, Bool, true, false, List, [], ◌∷◌, ◌++◌, Result, Ok, map, find, filter, drop, position, Option, Some, None, refl, ap, sym, ◌∙◌, subst, arith, eq-eqb, ne_eqb}
 use Rattle.std.specs.List.{AllByRecursion}
 use Rattle.std.specs.Prelude.{IfSome}
 use Rattle.std.proofs.lemmas.Bool.{cond-true, cond-false, cond_both, cases_eq, and_left}
@@ -7,14 +7,20 @@ use Rattle.std.proofs.lemmas.List.{map-append}
 use Rattle.std.proofs.lemmas.Option.{same_Some, none-some}
 use Rattle.rep_types.specs.declared.ids.Cluster.{Cluster}
 use Rattle.rep_types.specs.declared.ids.Cluster.TheVariants.{A, B, C}
-use Rattle.rep_types.specs.declared.state.QueueForm.{QueueForm}
+use Rattle.rep_types.specs.declared.state.Place.{Place}
 use Rattle.rep_types.specs.declared.state.QueueForms.{QueueForms}
 use Rattle.rep_types.specs.declared.state.Call.{Call}
 use Rattle.rep_types.specs.declared.state.Call.TheVariants as call
 use Rattle.rep_types.specs.declared.refusal.Refusal.TheVariants as refusal
 use Rattle.rep_types.specs.declared.reply.Reply.TheVariants as reply
+use Rattle.rep_vault.specs.declared.store.Change.{Change}
 use Rattle.rep_vault.specs.Contents.{File, empty_file, Contents, changed, with_records}
 use Rattle.rep_vault.proofs.Frames.{files_records, stands_records, records_records}
+use Rattle.queue_storage.specs.declared.record.QueueRecord.{QueueRecord}
+use Rattle.queue_storage.specs.Queues.{Storage, AreApart, new_queue as new_record}
+use Rattle.queue_storage.specs.Recorded.{Recorded, AreBeside}
+use Rattle.queue_storage.specs.Texts.{queue_change}
+use Rattle.queue_storage.proofs.Keys.{server_beside}
 use Rattle.wal_roll.specs.Log.{Log, LogValue, wal, log_name, writer_of, IsLog, IsWriter}
 use Rattle.wal_roll.specs.Steps.{MayCreate, OnlyFile, new_log}
 use Rattle.region_server.specs.Host.{HostValue}
@@ -27,7 +33,6 @@ use Rattle.rep_model.specs.Peers.{is_removed, is_dual_in}
 use Rattle.rep_model.specs.Row.{answers, fault_among, site}
 use Rattle.rep_model.specs.Plan.{told}
 use Rattle.rep_model.specs.Path.{refusal_of}
-use Rattle.rep_model.specs.FormEvents.{made_form}
 use Rattle.rep_model.specs.LogEvents.{is_dual, new_server, new_queue, server_queues, server_plan}
 use Rattle.rep_model.specs.declared.machine.Machine.{Machine}
 use Rattle.rep_model.specs.declared.machine.Side.{Side}
@@ -39,26 +44,32 @@ use Rattle.rep_model.specs.declared.machine.Queue.{Queue}
 use Rattle.rep_model.specs.declared.machine.Commit.{Commit}
 use Rattle.rep_model.proofs.Replacing.{find-absent}
 use Rattle.rep_laws.proofs.Lists.{In, all_in, All_weaker, All_append, All_dropped}
+use Rattle.rep_laws.proofs.FrontPart.{UniqueQueues, served_side, number_absent}
 use Rattle.rep_laws.proofs.Finding.{find_first, find_aside, find_more}
 use Rattle.rep_laws.proofs.CitedMore.{commits_are_in_logs, peer_is_found}
 use Rattle.cluster_core.specs.declared.parts.ClusterCore.{ClusterCore}
 use Rattle.cluster_core.specs.declared.parts.Station.{Station}
 use Rattle.cluster_core.specs.declared.parts.Shelf.{Shelf}
 use Rattle.cluster_core.specs.declared.parts.PeerLine.{PeerLine}
-use Rattle.cluster_core.specs.Texts.{RecordKey, OfTable, OfRegion, OfBarriers, OfServer, OfPeer, log_text}
+use Rattle.cluster_core.specs.Texts.{RecordKey, OfTable, OfRegion, OfBarriers, OfServer, OfPeer, OfQueue, OfLast, OfForms, log_text}
 use Rattle.cluster_core.specs.Changes.{setting}
 use Rattle.cluster_core.specs.Entries.{server_commits, entry_of}
 use Rattle.cluster_core.specs.Logs.{IsFresh, log_of}
-use Rattle.cluster_core.specs.Memory.{trace_of, server_at, pending_at, shelf_of, kept_after, peer_line, queue_of_line, IsAt}
-use Rattle.cluster_core.specs.Stands.{number_of, is_station, ServerTold, StationStands, StationAt, Stands}
+use Rattle.cluster_core.specs.Memory.{trace_of, server_at, pending_at, shelf_of, kept_after, peer_line}
+use Rattle.cluster_core.specs.QueuePlaces.{Divides, IsPlace}
+use Rattle.cluster_core.specs.Queues.{queue_of, IsAt}
+use Rattle.cluster_core.specs.Stands.{IsSmall, is_station, ServerTold, StationStands, StationAt, Stands}
 use Rattle.cluster_core.specs.Does.{Does, Reached}
 use Rattle.cluster_core.proofs.Answering.{faulted_one, plan_refused}
 use Rattle.cluster_core.proofs.Naming.{named_apart}
 use Rattle.cluster_core.proofs.Frames.{SameLogs, station_same}
 use Rattle.cluster_core.proofs.RecordsPut.{Owes, Put, IsAside, change_of, records_put, records_kept}
 use Rattle.cluster_core.proofs.Simple.{does_with, does_nothing}
-use Rattle.cluster_core.proofs.Staying.{station_beside, number_is, lines_kept}
-use Rattle.server_events.specs.Effects.{new_line, server_lines, new_shelf, new_station, with_server}
+use Rattle.cluster_core.proofs.Staying.{SameServer, is_same_peer, is_same_server, station_beside, number_is, queues_kept, recorded_same}
+use Rattle.cluster_core.proofs.QueuePuts.{put_of, queues_put, queues_due}
+use Rattle.cluster_core.proofs.Queued.{fronts_of}
+use Rattle.cluster_core.proofs.Requeued.{apart_of_unique}
+use Rattle.server_events.specs.Effects.{first_place, server_records, new_shelf, new_station, with_station, with_queues}
 
 pub same_ok : {T E : Type 0} (x y : T) → ◌≡◌ {A = Result T E} (Ok x) (Ok y) → x ≡ y
 same_ok x y e = cc
@@ -111,9 +122,9 @@ module _ (own : Cluster) (c c' : Contents) (core : ClusterCore) (side : Side) (s
       | inr apart ↦ station_same c c' side k (find (is_station k) core.stations) (find (is_server k) side.servers) (number_is k side.servers) (other_logs s small c c' frame k apart) (stands.servers k)
     ];
     queues = stands.queues;
+    recorded = recorded_same c c' core.queues core.queues frame.records refl stands.recorded;
     records = records_kept c c' side side frame.records stands.records (λ k _ o h. h);
     framed = stands.framed;
-    forms = stands.forms;
     link = stands.link;
   }
     where
@@ -169,23 +180,50 @@ module _ (s : ℕ) (servers : List Server) where
   traces_beside commits [] = refl
   traces_beside commits (h ∷ hs) = λ i. record (trace_of commits servers h) { pending = sym (pending_beside h.region.number (server_at h.place)) i } ∷ traces_beside commits hs i
 
-queues_of_lines : (f : QueueForms) (s : ℕ) (ps : List Peer) → map queue_of_line (server_lines (made_form f) s (map peer_line ps)) ≡ server_queues f s ps
-queues_of_lines f s [] = refl
-queues_of_lines f s (p ∷ ps) = by (is_removed p.standing) (queues_of_lines f s ps)
+queues_of_records : (f : QueueForms) (s : ℕ) (ps : List Peer) → map queue_of (server_records f s (map peer_line ps)) ≡ server_queues f s ps
+queues_of_records f s [] = refl
+queues_of_records f s (p ∷ ps) = by (is_removed p.standing) (queues_of_records f s ps)
   where
-    by : (b : Bool) → map queue_of_line (server_lines (made_form f) s (map peer_line ps)) ≡ server_queues f s ps
-        → map queue_of_line (cond b (server_lines (made_form f) s (map peer_line ps)) (new_line (made_form f) p.number s ∷ server_lines (made_form f) s (map peer_line ps))) ≡ cond b (server_queues f s ps) (new_queue f p.number s ∷ server_queues f s ps)
+    by : (b : Bool) → map queue_of (server_records f s (map peer_line ps)) ≡ server_queues f s ps
+        → map queue_of (cond b (server_records f s (map peer_line ps)) (new_record f p.number s first_place 0 ∷ server_records f s (map peer_line ps))) ≡ cond b (server_queues f s ps) (new_queue f p.number s ∷ server_queues f s ps)
     by true e = e
     by false e = ap (λ qs. new_queue f p.number s ∷ qs) e
 
+-- where there are no frames any place of the log divides them
+nothing_divides : (n : ℕ) (x : Place) → Divides [] n x
+nothing_divides zero x = record { before = tt; behind = tt }
+nothing_divides (suc n) x = record { before = tt; behind = tt }
+
+begins : (n : ℕ) → 0 ≤ n
+begins n = omega arith
+
+first_is_place : (s n : ℕ) (commits : List Commit) → server_commits s commits ≡ [] → IsPlace commits (new_server s false) n first_place
+first_is_place s n commits empty = record {
+  divides = subst (λ (xs : List Commit). Divides (kept_after [] xs) n first_place) (sym empty) (nothing_divides n first_place);
+  within = inr (refl, begins _);
+}
+
 -- each new queue is of a known peer, and empty
-lines_at : (side : Side) (form : QueueForm) (s : ℕ) (ps : List Peer) → AllByRecursion (λ (p : Peer). find (is_peer p.number) side.peers ≡ Some p) ps → ((p : Peer) → queue p s side.commits ≡ []) → server_commits s side.commits ≡ []
-    → AllByRecursion (IsAt side) (server_lines form s (map peer_line ps))
-lines_at side form s [] known none empty = tt
-lines_at side form s (p ∷ ps) known none empty =
-    cond_both (is_removed p.standing) (server_lines form s (map peer_line ps)) (new_line form p.number s ∷ server_lines form s (map peer_line ps)) (AllByRecursion (IsAt side))
-    (λ _. lines_at side form s ps known.1 none empty)
-    (λ _. (record { peer = p; known = known.0; within = omega arith; queued = none p ∙ sym empty }, lines_at side form s ps known.1 none empty))
+records_at : (side : Side) (form : QueueForms) (s : ℕ) (ps : List Peer) → AllByRecursion (λ (p : Peer). find (is_peer p.number) side.peers ≡ Some p) ps → find (is_server s) side.servers ≡ Some (new_server s false)
+    → ((p : Peer) → queue p s side.commits ≡ []) → server_commits s side.commits ≡ [] → AllByRecursion (IsAt side) (server_records form s (map peer_line ps))
+records_at side form s [] known there none empty = tt
+records_at side form s (p ∷ ps) known there none empty =
+    cond_both (is_removed p.standing) (server_records form s (map peer_line ps)) (new_record form p.number s first_place 0 ∷ server_records form s (map peer_line ps)) (AllByRecursion (IsAt side))
+    (λ _. records_at side form s ps known.1 there none empty)
+    (λ _. (
+      record {
+        peer = p;
+        known = known.0;
+        server = new_server s false;
+        there = there;
+        within = begins _;
+        queued = none p ∙ sym empty;
+        starts = first_is_place s _ side.commits empty;
+        stands = first_is_place s 0 side.commits empty;
+        log = inl refl;
+      },
+      records_at side form s ps known.1 there none empty,
+    ))
 
 -- ---- memory and the store with the server
 
@@ -197,7 +235,7 @@ new_host w = record { log = w; pending = []; tickets = [] }
 
 module _ (own : Cluster) (c mid c' : Contents) (core : ClusterCore) (side : Side) (s : ℕ) (small : s < 2 ^ 32) (stands : Stands own c core side)
     (no_station : find (is_station s) core.stations ≡ None) (no_server : find (is_server s) side.servers ≡ None) (w : LogValue)
-    (frame : OnlyFile wal (log_name s 1) c mid) (writer : IsWriter mid w (new_log s 1)) (put : c' ≡ with_records (setting (OfServer s) (log_text 1 false) ∷ []) mid)
+    (frame : OnlyFile wal (log_name s 1) c mid) (writer : IsWriter mid w (new_log s 1)) (put : c' ≡ with_records (setting (OfServer s) (log_text 1 false) ∷ map queue_change (server_records core.queues.forms s core.peers)) mid)
     (none : AllByRecursion (λ (x : Commit). (x.server == s) ≡ false) side.commits) (known : AllByRecursion (λ (p : Peer). find (is_peer p.number) side.peers ≡ Some p) side.peers) where
   abbrev after : Side
   after = side_after s side
@@ -261,17 +299,30 @@ module _ (own : Cluster) (c mid c' : Contents) (core : ClusterCore) (side : Side
   ]
 
   abbrev puts : List Put
-  puts = record { key = OfServer s; value = Some (log_text 1 false) } ∷ []
+  puts = record { key = OfServer s; value = Some (log_text 1 false) } ∷ map put_of (server_records core.queues.forms s core.peers)
 
-  others : (k : RecordKey) → number_of k < 2 ^ 32 → IsAside puts k → (o : Option (List ℕ)) → Owes side k o → Owes after k o
+  puts_are : map change_of (record { key = OfServer s; value = Some (log_text 1 false) } ∷ map put_of (server_records core.queues.forms s core.peers)) ≡ setting (OfServer s) (log_text 1 false) ∷ map queue_change (server_records core.queues.forms s core.peers)
+  puts_are = ap (λ (xs : List Change). setting (OfServer s) (log_text 1 false) ∷ xs) (queues_put (server_records core.queues.forms s core.peers))
+
+  pub queues_are : map queue_of (core.queues.queues ++ server_records core.queues.forms s core.peers) ≡ side.queues ++ server_queues side.forms s side.peers
+  queues_are = map-append queue_of core.queues.queues (server_records core.queues.forms s core.peers)
+      ∙ ((λ i. stands.queues.queues i ++ map queue_of (server_records (stands.queues.forms i) s (stands.queues.peers i))) ∙ ap (λ (qs : List Queue). side.queues ++ qs) (queues_of_records side.forms s side.peers))
+
+  server_more : (n : ℕ) (v : Server) → find (is_server n) side.servers ≡ Some v → SameServer after.servers n v
+  server_more n v e = is_same_server after.servers n v (find_more (is_server n) v side.servers (joined ∷ []) e)
+
+  others : (k : RecordKey) → IsSmall k → IsAside puts k → (o : Option (List ℕ)) → Owes side k o → Owes after k o
   others (OfTable t) few aside o h = h
   others (OfRegion r) few aside o h = h
   others (OfBarriers r) few aside o h = h
   others (OfServer k) few aside o h = subst (λ (p : Option Server). ServerTold o p) (sym (find_aside (is_server k) joined side.servers (ne_eqb s k (λ e. aside.0 (ap OfServer e))))) h
   others (OfPeer p) few aside o h = h
+  others (OfQueue p n) few aside o h = tt
+  others (OfLast p n) few aside o h = tt
+  others OfForms few aside o h = tt
 
-  pub server_stands : Stands own c' (with_server s (new_host w) core) after
-  server_stands = record {
+  pub server_stands : Recorded c' (record core.queues { queues = core.queues.queues ++ server_records core.queues.forms s core.peers }) → Stands own c' (with_station s (new_host w) (with_queues s core)) after
+  server_stands recorded = record {
     own_is = stands.own_is;
     folder = ap (λ (d : Contents). d.stands wal) put ∙ (ap (λ (f : List ℕ → Bool). f wal) (stands_records _ mid) ∙ (ap (λ (f : List ℕ → Bool). f wal) frame.stands ∙ stands.folder));
     regions = stands.regions;
@@ -286,15 +337,17 @@ module _ (own : Cluster) (c mid c' : Contents) (core : ClusterCore) (side : Side
     queues = record {
       peers = stands.queues.peers;
       plain = stands.queues.plain;
-      queues = map-append queue_of_line core.lines (server_lines (made_form core.forms) s core.peers)
-          ∙ ((λ i. stands.queues.queues i ++ map queue_of_line (server_lines (made_form (stands.forms i)) s (stands.queues.peers i))) ∙ ap (λ (qs : List Queue). side.queues ++ qs) (queues_of_lines side.forms s side.peers));
-      at = All_append (IsAt after) core.lines (server_lines (made_form core.forms) s core.peers) (lines_kept side after core.lines refl (λ _ _ h. h) stands.queues.at)
-          (subst (λ (ps : List PeerLine). AllByRecursion (IsAt after) (server_lines (made_form core.forms) s ps)) (sym stands.queues.peers) (lines_at after (made_form core.forms) s side.peers known (no_queue s side.commits none) (no_commits s side.commits none)));
+      queues = queues_are;
+      at = All_append (IsAt after) core.queues.queues (server_records core.queues.forms s core.peers) (queues_kept side after core.queues.queues refl (is_same_peer side.peers) server_more stands.queues.at)
+          (subst (λ (ps : List PeerLine). AllByRecursion (IsAt after) (server_records core.queues.forms s ps)) (sym stands.queues.peers)
+          (records_at after core.queues.forms s side.peers known found_server (no_queue s side.commits none) (no_commits s side.commits none)));
+      last = stands.queues.last;
+      forms = stands.queues.forms;
     };
-    records = records_put c c' side after puts (ap (λ (d : Contents). d.records) put ∙ (records_records _ mid ∙ ap (λ (f : List ℕ → Option (List ℕ)). changed (map change_of puts) f) frame.records)) stands.records
-        (record { small = small; owed = subst (λ (p : Option Server). ServerTold (Some (log_text 1 false)) p) (sym found_server) (inl refl) }, tt) others;
+    recorded = recorded;
+    records = records_put c c' side after puts (ap (λ (d : Contents). d.records) put ∙ (records_records _ mid ∙ ((λ i. changed (sym puts_are i) (frame.records i))))) stands.records
+        (record { small = small; owed = subst (λ (p : Option Server). ServerTold (Some (log_text 1 false)) p) (sym found_server) (inl refl) }, queues_due after (server_records core.queues.forms s core.peers)) (λ k few aside. others k few aside);
     framed = stands.framed;
-    forms = stands.forms;
     link = stands.link;
   }
 
@@ -358,13 +411,33 @@ module _ (way : Route) (own : Cluster) (c : Contents) (core : ClusterCore) (s : 
     known_peers pair reached =
         All_weaker (λ p i. subst (λ (k : Machine). In p (of own k).peers → find (is_peer p.number) (of own k).peers ≡ Some p) reached.leads (peer_is_found way reached.steps reached.legal own pair p) i) (of own m).peers (all_in (of own m).peers)
 
-    pub server_done : is_in way own ≡ true → Reached way m → s < 2 ^ 32 → None ≡ position (is_station s) core.stations → (mid c' : Contents) (w : LogValue) (core' : ClusterCore)
-        → OnlyFile wal (log_name s 1) c mid → IsWriter mid w (new_log s 1) → c' ≡ with_records (setting (OfServer s) (log_text 1 false) ∷ []) mid → core' ≡ with_server s (new_host w) core
+    -- no two of the queues then are of one peer and one server
+    apart_then : is_in way own ≡ true → Reached way m → AreApart (core.queues.queues ++ server_records core.queues.forms s core.peers)
+    apart_then pair reached =
+        let fronts = fronts_of own pair m reached in
+        let unique = (served_side (of own m).forms s (λ i. number_absent s (of own m).servers none i) fronts).unique in
+        let all : map queue_of (core.queues.queues ++ server_records core.queues.forms s core.peers) ≡ (of own m).queues ++ server_queues (of own m).forms s (of own m).peers =
+        map-append queue_of core.queues.queues (server_records core.queues.forms s core.peers)
+        ∙ ((λ i. stands.queues.queues i ++ map queue_of (server_records (stands.queues.forms i) s (stands.queues.peers i))) ∙ ap (λ (qs : List Queue). (of own m).queues ++ qs) (queues_of_records (of own m).forms s (of own m).peers)) in
+        apart_of_unique (core.queues.queues ++ server_records core.queues.forms s core.peers) (subst UniqueQueues (sym all) unique)
+
+    pub server_done : is_in way own ≡ true → Reached way m → s < 2 ^ 32 → None ≡ position (is_station s) core.stations → (mid c' : Contents) (w : LogValue) (queues : Storage) (core' : ClusterCore)
+        → OnlyFile wal (log_name s 1) c mid → IsWriter mid w (new_log s 1) → (with : List Change) (made : List QueueRecord) → with ≡ setting (OfServer s) (log_text 1 false) ∷ [] → made ≡ server_records core.queues.forms s core.peers
+        → c' ≡ with_records (with ++ map queue_change made) mid → queues.queues ≡ core.queues.queues ++ made → queues.ids ≡ core.queues.ids → queues.forms ≡ core.queues.forms
+        → (Recorded mid core.queues → AreApart (core.queues.queues ++ made) → AreBeside with → Recorded c' queues) → core' ≡ with_station s (new_host w) (record core { queues = queues })
         → Does own (told (server_plan way own s m) reply.Done m) m c' core' reply.Done
-    server_done pair reached small absent mid c' w core' frame writer put made =
+    server_done pair reached small absent mid c' w queues core' frame writer with made with_is made_is put queues_is ids_is forms_is recorded made_core =
+        let no_station = find-absent (is_station s) core.stations (sym absent) in
+        let next : Storage = record core.queues { queues = core.queues.queues ++ server_records core.queues.forms s core.peers } in
+        let is : queues ≡ next = λ i. record { queues = (queues_is ∙ ap (λ (qs : List QueueRecord). core.queues.queues ++ qs) made_is) i; ids = ids_is i; forms = forms_is i } in
+        let before = file_made own c mid core (of own m) s small stands no_station none w frame writer in
+        let apart = subst (λ (qs : List QueueRecord). AreApart (core.queues.queues ++ qs)) (sym made_is) (apart_then pair reached) in
+        let beside = subst AreBeside (sym with_is) (server_beside (decimal s), tt) in
+        let now : Recorded c' next = subst (Recorded c') is (recorded before.recorded apart beside) in
+        let puts : c' ≡ with_records (setting (OfServer s) (log_text 1 false) ∷ map queue_change (server_records core.queues.forms s core.peers)) mid = put ∙ (λ i. with_records (with_is i ++ map queue_change (made_is i)) mid) in
         does_with own (told (server_plan way own s m) reply.Done m) m (side_after s (of own m)) c' core' reply.Done (row_done way own s m none (not_dual own m stands.link))
-        (subst (λ (k : ClusterCore). Stands own c' k (side_after s (of own m))) (sym made)
-        (server_stands own c mid c' core (of own m) s small stands (find-absent (is_station s) core.stations (sym absent)) none w frame writer put (unused pair reached) (known_peers pair reached)))
+        (subst (λ (k : ClusterCore). Stands own c' k (side_after s (of own m))) (sym (made_core ∙ ap (λ (st : Storage). with_station s (new_host w) (record core { queues = st })) is))
+        (server_stands own c mid c' core (of own m) s small stands no_station none w frame writer puts (unused pair reached) (known_peers pair reached) now))
 
     pub may_create_log : None ≡ position (is_station s) core.stations → MayCreate c s 1
     may_create_log absent = record { stands = stands.folder; free = fresh_or_empty (c.files wal (log_name s 1)) (fresh own c core (of own m) s stands (find-absent (is_station s) core.stations (sym absent)) none 1) }

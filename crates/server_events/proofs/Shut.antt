@@ -1,5 +1,5 @@
 -- A server's log was sealed, and some station stands for the server then: what memory and the store stand for.
-use Rattle.std.proofs.Common.{ℕ, zero, suc, ◌≡◌, inl, inr, Bool, List, [], ◌∷◌, ◌++◌, find, set, slice_get, take, drop, length, Option, Some, refl, ap, sym, ◌∙◌, subst}
+use Rattle.std.proofs.Common.{ℕ, ◌≤◌, zero, suc, ◌≡◌, inl, inr, Bool, List, [], ◌∷◌, ◌++◌, find, set, slice_get, take, drop, length, Option, Some, refl, ap, sym, ◌∙◌, subst}
 use Rattle.std.specs.List.{AllByRecursion}
 use Rattle.rep_types.specs.declared.ids.Cluster.{Cluster}
 use Rattle.rep_types.specs.declared.entry.Entry.{Entry}
@@ -20,6 +20,7 @@ use Rattle.cluster_core.specs.Absorbing.{committed_side}
 use Rattle.cluster_core.specs.Entries.{coming, log_entries, pending_entries}
 use Rattle.cluster_core.specs.Logs.{log_of, IsTail, IsSealedLog}
 use Rattle.cluster_core.specs.Lookups.{HasStation}
+use Rattle.cluster_core.specs.Queues.{StillTells}
 use Rattle.cluster_core.specs.Orderly.{IsPlaced, ArePlaced, IsOrderly}
 use Rattle.cluster_core.specs.Stands.{StationStands, RecordsStand, Stands, is_station}
 use Rattle.cluster_core.proofs.Beside.{log_aside, log_goes_on}
@@ -27,6 +28,7 @@ use Rattle.cluster_core.proofs.Places.{taken_set}
 use Rattle.cluster_core.proofs.Shelving.{coming_of_log}
 use Rattle.cluster_core.proofs.Synced.{files_apart, station_set}
 use Rattle.cluster_core.proofs.Turning.{Turns, TurnsCore, turned}
+use Rattle.cluster_core.proofs.Staying.{recorded_same}
 use Rattle.server_events.specs.Kept.{sealed_host, HasKept}
 use Rattle.server_events.proofs.Taken.{pending_taken}
 
@@ -66,9 +68,9 @@ module _ (own : Cluster) (old new : Contents) (core core' : ClusterCore) (side :
   framed = subst (AllByRecursion HasFrame) (sym (pending_taken here.server.number here.server.log side.commits (length kept.entries) here.server.pending))
       (All_taken HasFrame (length kept.entries) (pending_entries here.server.number here.server.log side.commits here.server.pending) here.stands.framed)
 
-  pub turns : (next : Server) → next.number ≡ here.server.number
+  pub turns : (next : Server) → next.number ≡ here.server.number → here.server.log ≤ next.log
       → Turns side (committed_side here.server next (take (length kept.entries) here.server.pending) side) here.server next (take (length kept.entries) here.server.pending)
-  turns next same = record { found = known; number = same; servers = refl; commits = refl; tables = refl; regions = refl; peers = refl; queues = refl; forms = refl; link = refl }
+  turns next same rises = record { found = known; number = same; rises = rises; servers = refl; commits = refl; tables = refl; regions = refl; peers = refl; queues = refl; forms = refl; link = refl }
 
   -- ---- logs
 
@@ -124,18 +126,17 @@ module _ (own : Cluster) (old new : Contents) (core core' : ClusterCore) (side :
         own = refl;
         map = refl;
         peers = refl;
-        lines = refl;
-        forms = refl;
+        queues = refl;
         turned = subst (λ j. find (is_station j) (set core.stations at st) ≡ Some st) (sym here.number) all.0;
         others = λ t apart. all.1 t (λ e. apart (here.number ∙ e));
       }
 
   -- ---- all parts
 
-  pub left : (next : Server) (st : Station) → next.number ≡ here.server.number → next.pending ≡ [] → st.host.log.server ≡ s
+  pub left : (next : Server) (st : Station) → next.number ≡ here.server.number → here.server.log ≤ next.log → next.pending ≡ [] → st.host.log.server ≡ s
       → StationStands new (committed_side here.server next (take (length kept.entries) here.server.pending) side) st next
-      → RecordsStand new (committed_side here.server next (take (length kept.entries) here.server.pending) side)
+      → StillTells here.server next core.queues.queues → RecordsStand new (committed_side here.server next (take (length kept.entries) here.server.pending) side)
       → Stands own new (record core { stations = set core.stations at st; index = k.index }) (committed_side here.server next (take (length kept.entries) here.server.pending) side)
-  left next st same none is station records =
-      turned own old new core (record core { stations = set core.stations at st; index = k.index }) side (committed_side srv next front side) srv next st front stands o (turns next same) (core_turned st is) placed framed
-      (ap (λ (f : List ℕ → Bool). f wal) k.only.stands) (λ t apart l. other_file t l (λ e _. apart e)) station (k.indexed next same none) records
+  left next st same rises none is station tells records =
+      turned own old new core (record core { stations = set core.stations at st; index = k.index }) side (committed_side srv next front side) srv next st front stands o (turns next same rises) (core_turned st is) placed framed
+      (ap (λ (f : List ℕ → Bool). f wal) k.only.stands) (λ t apart l. other_file t l (λ e _. apart e)) station (k.indexed next same none) tells (recorded_same old new core.queues core.queues k.only.records refl stands.recorded) records

@@ -5,6 +5,7 @@ ghost use Rattle.wal_roll.specs.Log.{IsWriter};
 ghost use Rattle.wal_roll.specs.Steps.{new_log};
 ghost use Rattle.wal_roll.specs.Blamed.{IsFault};
 ghost use Rattle.region_server.specs.Host.{Stands as HostStands};
+ghost use Rattle.rep_model.specs.LogEvents.{next_log};
 ghost use Rattle.rep_model.specs.declared.machine.Side.{Side};
 ghost use Rattle.cluster_core.specs.declared.parts.Station.{Station};
 ghost use Rattle.cluster_core.specs.declared.committing.CommitError.TheVariants as error;
@@ -12,6 +13,7 @@ ghost use Rattle.cluster_core.specs.Entries.{log_entries};
 ghost use Rattle.cluster_core.specs.Texts.{OfServer, key_text, log_text};
 ghost use Rattle.cluster_core.specs.Orderly.{IsOrderly};
 ghost use Rattle.cluster_core.specs.Lookups.{HasStation};
+ghost use Rattle.cluster_core.specs.Queues.{StillTells};
 ghost use Rattle.cluster_core.specs.Stands.{Stands};
 ghost use Rattle.cluster_core.specs.Does.{Counts};
 ghost use Rattle.server_events.specs.NextLog.{new_host, RollsOn};
@@ -58,7 +60,7 @@ fn close(stations: &mut Items<Station>, at: usize)
 }
 
 /// Ends the log of the station at this place, by one call of the store, and goes on with the server's next log, which is
-/// empty and of which the server's record tells already. What the seal kept is committed, and nothing is pending then.
+/// empty and of which the server's record and those of its queues tell already. What the seal kept is committed, and nothing is pending then.
 pub fn end_log<V: Vault>(
     core: &mut ClusterCore,
     alloc: Global,
@@ -72,7 +74,7 @@ pub fn end_log<V: Vault>(
     requires fresh { next.lengths ≡ [] }
     ensures does { (side : Side) (s : ℕ) (here : HasStation (V.contents own.old) side core.old.stations s at) → here.server.sealed ≡ false → IsOrderly side
         → log_entries s (here.server.log + 1) side.commits ≡ [] → IsWriter (V.contents own.old) next (new_log s (here.server.log + 1))
-        → (V.contents own.old).records (key_text (OfServer s)) ≡ Some (log_text (here.server.log + 1) false)
+        → (V.contents own.old).records (key_text (OfServer s)) ≡ Some (log_text (here.server.log + 1) false) → StillTells here.server (next_log false here.server) core.old.queues.queues
         → Stands core.old.own (V.contents own.old) core.old side
         → RollsOn core.old.own (V.contents own.old) core.old side here.server (V.contents own.new) core.new result }
     ensures counts { Counts (V.tally own.old) (V.tally own.new) }

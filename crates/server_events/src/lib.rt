@@ -4,7 +4,7 @@
 mod crashing;
 mod ending;
 mod keeping;
-mod lines;
+mod queues;
 mod rolling;
 mod sealing;
 mod servers;

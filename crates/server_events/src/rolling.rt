@@ -1,5 +1,5 @@
 // A roll: a server goes on with its next log.
-ghost use Rattle.std.specs.Prelude.{◌≡◌, ◌+◌, ◌<◌, ◌^◌, true, false, Some, IfOk, IfSome, MatchResult, length, slice_get};
+ghost use Rattle.std.specs.Prelude.{◌≡◌, ◌+◌, ◌<◌, ◌^◌, ◌∷◌, [], true, false, Some, IfOk, IfSome, MatchResult, length, slice_get};
 ghost use Rattle.rep_types.specs.declared.event.Event.TheVariants as event;
 ghost use Rattle.rep_types.specs.declared.reply.Reply.{Reply};
 ghost use Rattle.rep_vault.specs.Contents.{Contents};
@@ -19,9 +19,9 @@ ghost use Rattle.server_events.specs.Ready.{MayRoll};
 use crate::ending::end_log;
 use crate::keeping::station_here;
 use cluster_core::{
-    ClusterCore, CommitError, CoreError, Station, Stored, current_log, put_records, server_change,
-    station_at,
+    ClusterCore, CommitError, CoreError, Station, current_log, server_change, station_at,
 };
+use queue_storage::QueueError;
 use rep_types::{Call, Items, Memory, Refusal, Reply, ServerId};
 use rep_vault::{Change, Vault};
 use std::alloc::Global;
@@ -63,15 +63,17 @@ fn next_number(stations: &Items<Station>, at: usize) -> Option<u32>
 }
 
 // The record of a server that goes on with this log. The server's number is small.
-fn next_record(alloc: Global, server: ServerId, log: u32) -> Result<Change, Memory>
-    ensures text { IfOk result (λ change. change ≡ setting (OfServer server) (log_text log false)) }
+fn next_record(alloc: Global, server: ServerId, log: u32) -> Result<Vec<Change>, Memory>
+    ensures text { IfOk result (λ changes. changes.items ≡ setting (OfServer server) (log_text log false) ∷ []) }
     ensures small { server < 2 ^ 32 }
 {
     let _number = server.number();
-    server_change(alloc, server, log, false)
+    let mut changes = Vec::new(alloc);
+    changes.push(server_change(alloc, server, log, false)?)?;
+    Ok(changes)
 }
 
-/// Makes a live server's next log, puts its record, and seals the log before. What that seal kept of a broken log's pending
+/// Makes a live server's next log, puts its record and those of its queues that list logs, and seals the log before. What that seal kept of a broken log's pending
 /// entries is committed, the others are dropped, and all of their tickets are doubtful. A log that isn't broken has nothing
 /// pending. A call that fails leaves the server at its log, and what the calls before it made is as if it weren't there.
 /// Where the log's number is the greatest of 32 bits, the answer is Memory.
@@ -94,7 +96,7 @@ pub fn roll<V: Vault>(
     let Some(number) = next_number(&core.stations, at) else {
         return Err(CoreError::Memory { changed: false });
     };
-    let Ok(change) = next_record(alloc, server, number) else {
+    let Ok(changes) = next_record(alloc, server, number) else {
         return Err(CoreError::Memory { changed: false });
     };
     let store = core.own;
@@ -107,8 +109,8 @@ pub fn roll<V: Vault>(
         Err(LogError::Broken) => unreachable!(),
         Err(LogError::NeedRoll { .. }) => unreachable!(),
     };
-    match put_records(own, &[change]) {
-        Stored::Done => match end_log(core, alloc, own, at, next) {
+    match core.queues.add_log(own, server, number, changes) {
+        Ok(()) => match end_log(core, alloc, own, at, next) {
             Ok(ended) => Ok(Reply::Rolled {
                 log: number,
                 commits: ended.entries.len() as u64,
@@ -122,11 +124,12 @@ pub fn roll<V: Vault>(
             }),
             Err(CommitError::Memory { .. }) => Err(CoreError::Memory { changed: true }),
         },
-        Stored::Fault(count) => Ok(Reply::StoreFault {
+        Err(QueueError::NoQueue) => unreachable!(),
+        Err(QueueError::StoreFault { count }) => Ok(Reply::StoreFault {
             store,
             call: Call::Put,
             count,
         }),
-        Stored::NoMemory => Err(CoreError::Memory { changed: true }),
+        Err(QueueError::Memory) => Err(CoreError::Memory { changed: true }),
     }
 }

@@ -1,4 +1,4 @@
-ghost use Rattle.std.specs.Prelude.{◌≡◌, ◌<◌, ◌^◌, true, false, OnOk, IfOk};
+ghost use Rattle.std.specs.Prelude.{◌≡◌, ◌<◌, ◌^◌, ◌∷◌, [], true, false, OnOk, IfOk};
 ghost use Rattle.rep_types.specs.declared.event.Event.TheVariants as event;
 ghost use Rattle.rep_model.specs.State.{Route, of};
 ghost use Rattle.rep_model.specs.Words.{is_in};
@@ -7,13 +7,11 @@ ghost use Rattle.cluster_core.specs.Texts.{OfServer, log_text};
 ghost use Rattle.cluster_core.specs.Changes.{setting};
 ghost use Rattle.cluster_core.specs.Stands.{Stands};
 ghost use Rattle.cluster_core.specs.Does.{Standing, Reached, Answers, Counts, FaultTold};
-ghost use Rattle.server_events.specs.Effects.{with_server};
+ghost use Rattle.server_events.specs.Effects.{with_station};
 
-use crate::lines::add_lines;
-use cluster_core::{
-    ClusterCore, CoreError, Shelf, Station, Stored, made_form, put_records, server_change,
-    station_at,
-};
+use crate::queues::server_queues;
+use cluster_core::{ClusterCore, CoreError, Shelf, Station, server_change, station_at};
+use queue_storage::QueueError;
 use region_server::Host;
 use rep_types::{Call, Items, Memory, Refusal, Reply, ServerId};
 use rep_vault::{Change, Vault};
@@ -21,17 +19,19 @@ use std::alloc::Global;
 use wal_roll::{LogError, LogWriter};
 
 // The record of a new server, whose number is small.
-fn first_record(alloc: Global, server: ServerId) -> Result<Change, Memory>
-    ensures text { IfOk result (λ change. change ≡ setting (OfServer server) (log_text 1 false)) }
+fn first_record(alloc: Global, server: ServerId) -> Result<Vec<Change>, Memory>
+    ensures text { IfOk result (λ changes. changes.items ≡ setting (OfServer server) (log_text 1 false) ∷ []) }
     ensures small { server < 2 ^ 32 }
 {
     let _number = server.number();
-    server_change(alloc, server, 1, false)
+    let mut changes = Vec::new(alloc);
+    changes.push(server_change(alloc, server, 1, false)?)?;
+    Ok(changes)
 }
 
-// Puts the server into memory.
+// Puts the server into memory, which has its queues already.
 fn add(core: &mut ClusterCore, alloc: Global, server: ServerId, host: Host) -> Result<(), Memory>
-    ensures { OnOk result (core.new ≡ with_server server host core.old) }
+    ensures { OnOk result (core.new ≡ with_station server host core.old) }
 {
     core.index.shelves.push(Shelf {
         server,
@@ -41,9 +41,7 @@ fn add(core: &mut ClusterCore, alloc: Global, server: ServerId, host: Host) -> R
         live: true,
         sealed: false,
         host,
-    })?;
-    let form = made_form(core.forms);
-    add_lines(&mut core.lines, form, server, &core.peers)
+    })
 }
 
 /// Makes a server with its first log, and a queue of it for each peer that isn't removed. The log's file stays where the
@@ -64,7 +62,10 @@ pub fn server<V: Vault>(
         Some(_) => return Ok(Reply::Refused(Refusal::Exists)),
         None => {}
     }
-    let Ok(change) = first_record(alloc, server) else {
+    let Ok(changes) = first_record(alloc, server) else {
+        return Err(CoreError::Memory { changed: false });
+    };
+    let Ok(queues) = server_queues(alloc, &core.queues, server, &core.peers) else {
         return Err(CoreError::Memory { changed: false });
     };
     let log = match LogWriter::create(alloc, own, server, 1) {
@@ -83,16 +84,17 @@ pub fn server<V: Vault>(
     let Ok(host) = Host::new(alloc, server, log) else {
         return Err(CoreError::Memory { changed: true });
     };
-    match put_records(own, &[change]) {
-        Stored::Done => match add(core, alloc, server, host) {
+    match core.queues.add(own, &queues, changes) {
+        Ok(()) => match add(core, alloc, server, host) {
             Ok(()) => Ok(Reply::Done),
             Err(_) => Err(CoreError::Memory { changed: true }),
         },
-        Stored::Fault(count) => Ok(Reply::StoreFault {
+        Err(QueueError::NoQueue) => unreachable!(),
+        Err(QueueError::StoreFault { count }) => Ok(Reply::StoreFault {
             store: core.own,
             call: Call::Put,
             count,
         }),
-        Stored::NoMemory => Err(CoreError::Memory { changed: true }),
+        Err(QueueError::Memory) => Err(CoreError::Memory { changed: true }),
     }
 }

@@ -34,7 +34,7 @@ go_on-requires-clause-own g c = λ st there.
     c.requires.own same.was same.there ∙ sym same.server
 
 pub returns-in-Ok-clause-does : goal.returns-in-Ok-clause-does
-returns-in-Ok-clause-does g c = λ side s here sealed o none writer told stands.
+returns-in-Ok-clause-does g c = λ side s here sealed o none writer told tells stands.
     let core : ClusterCore = c.args.core.now in
     let mid : ClusterCore = c.seal_pending.new.core in
     let old : Contents = g.V.Vault.contents c.args.own.now in
@@ -49,7 +49,7 @@ returns-in-Ok-clause-does g c = λ side s here sealed o none writer told stands.
       k.count,
       c.go_on.ensures.tickets sealed_station there ∙ here.stands.tickets,
       subst (λ (x : ClusterCore). Stands core.own new x (committed_side srv (next_log false srv) (take (length kept.entries) srv.pending) side)) (sym is)
-          (rolled_on core.own old new core mid side s c.args.at here kept stands o k c.args.next sealed none writer told),
+          (rolled_on core.own old new core mid side s c.args.at here kept stands o k c.args.next sealed none writer told tells),
     )
 
 -- what failed left all as it was
@@ -59,7 +59,7 @@ of_error own old new core core' side srv st at (StoreFault count) k = k
 of_error own old new core core' side srv st at (Memory changed) k = tt
 
 pub returns-in-Err-clause-does : goal.returns-in-Err-clause-does
-returns-in-Err-clause-does g c = λ side s here sealed o none writer told stands.
+returns-in-Err-clause-does g c = λ side s here sealed o none writer told tells stands.
     let core : ClusterCore = c.args.core.now in
     of_error core.own (g.V.Vault.contents c.args.own.now) (g.V.Vault.contents c.seal_pending.new.own) core c.seal_pending.new.core side here.server here.station c.args.at c.in-Err.error
     (c.in-Err.ensures.does side s here sealed o stands)

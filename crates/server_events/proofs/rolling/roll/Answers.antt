@@ -1,6 +1,8 @@
 -- The row of a roll, and what memory and the store stand for after each of its calls.
 use Rattle.std.proofs.Common.{ℕ, sym, subst}
+use Rattle.rep_types.specs.declared.state.Call.TheVariants as call
 use Rattle.rep_types.specs.declared.reply.Reply.TheVariants as reply
+use Rattle.queue_storage.specs.Queues.{Storage}
 use Rattle.rep_vault.specs.Contents.{Contents}
 use Rattle.rep_model.specs.Plan.{told}
 use Rattle.rep_model.specs.LogEvents.{roll_plan}
@@ -38,16 +40,20 @@ returns-in-Err-StoreFault-clause-does g c = λ way m reached pair stands.
     rw c.in-Err-StoreFault.field-0-is
     (roll_unmade way core.own c.args.server m k.here.server k.here.known k.live k.settled (g.V.Vault.contents c.create.new.vault) core c.in-Err-StoreFault.call c.in-Err-StoreFault.count h.0 (subst (λ (d : Contents). Stands core.own d core (of core.own m)) (sym h.1) stands))
 
-pub returns-in-Fault-clause-does : goal.returns-in-Fault-clause-does
-returns-in-Fault-clause-does g c = λ way m reached pair stands.
+pub returns-in-Err-StoreFault-add_log-clause-does : goal.returns-in-Err-StoreFault-add_log-clause-does
+returns-in-Err-StoreFault-add_log-clause-does g c = λ way m reached pair stands.
     let core : ClusterCore = c.args.core.now in
     let old : Contents = g.V.Vault.contents c.args.own.now in
     let mid : Contents = g.V.Vault.contents c.create.new.vault in
     let k = c.in-Ok.ensures.state old m stands.servers in
     let next = c.in-Some.ensures.next k.here.station k.here.there in
-    roll_unput way core.own c.args.server m k.here.server k.here.known k.live k.settled (g.V.Vault.contents c.put_records.new.own) core c.in-Fault.count
-    (subst (λ (d : Contents). Stands core.own d core (of core.own m)) (sym c.in-Fault.ensures.does)
-    (is_made core.own old core c.args.server c.in-Ok.at m pair reached stands k.here k.live c.in-Some.number next c.in-Ok-next_record.ensures.small c.in-Some.ensures.fits mid c.in-Ok-create.next c.in-Ok-create.ensures.frame c.in-Ok-create.ensures.does))
+    let failed = c.in-Err-StoreFault-add_log.ensures in
+    let fault = reply.StoreFault core.own call.Put c.in-Err-StoreFault-add_log.count in
+    rw c.in-Err-StoreFault-add_log.field-0-is
+    (subst (λ (q : Storage). Does core.own (told (roll_plan way core.own c.args.server fault m) fault m) m (g.V.Vault.contents c.add_log.new.vault) (record core { queues = q }) fault) (sym failed.err)
+    (roll_unput way core.own c.args.server m k.here.server k.here.known k.live k.settled (g.V.Vault.contents c.add_log.new.vault) core c.in-Err-StoreFault-add_log.count
+    (subst (λ (d : Contents). Stands core.own d core (of core.own m)) (sym failed.stays)
+    (is_made core.own old core c.args.server c.in-Ok.at m pair reached stands k.here k.live c.in-Some.number next c.in-Ok-next_record.ensures.small c.in-Some.ensures.fits mid c.in-Ok-create.next c.in-Ok-create.ensures.frame c.in-Ok-create.ensures.does))))
 
 pub end_log-requires-clause-stands : goal.end_log-requires-clause-stands
 end_log-requires-clause-stands g c =
@@ -58,7 +64,8 @@ end_log-requires-clause-stands g c =
     let k = c.in-Ok.ensures.state old r.1 r.4.servers in
     let next = c.in-Some.ensures.next k.here.station k.here.there in
     host_stands core.own old core c.args.server c.in-Ok.at r.1 r.3 r.2 r.4 k.here k.live c.in-Some.number next c.in-Ok-next_record.ensures.small c.in-Some.ensures.fits mid c.in-Ok-create.next c.in-Ok-create.ensures.frame c.in-Ok-create.ensures.does
-    (g.V.Vault.contents c.put_records.new.own) c.in-Ok-next_record.change c.in-Ok-next_record.ensures.text c.in-Done.ensures.does
+    (g.V.Vault.contents c.add_log.new.vault) c.add_log.new.self c.in-Ok-next_record.changes.items c.in-Ok-next_record.ensures.text c.in-Ok-add_log.ensures.records c.in-Ok-add_log.ensures.queues c.in-Ok-add_log.ensures.ids
+    c.in-Ok-add_log.ensures.forms c.in-Ok-add_log.ensures.recorded
 
 pub end_log-requires-clause-own : goal.end_log-requires-clause-own
 end_log-requires-clause-own g c =
@@ -76,20 +83,22 @@ returns-in-Err-StoreFault-end_log-clause-does g c = λ way m reached pair stands
     let s : ℕ = c.args.server in
     let old : Contents = g.V.Vault.contents c.args.own.now in
     let mid : Contents = g.V.Vault.contents c.create.new.vault in
-    let put : Contents = g.V.Vault.contents c.put_records.new.own in
+    let put : Contents = g.V.Vault.contents c.add_log.new.vault in
+    let done = c.in-Ok-add_log.ensures in
+    let logged : ClusterCore = record core { queues = c.add_log.new.self } in
     let k = c.in-Ok.ensures.state old m stands.servers in
     let next = c.in-Some.ensures.next k.here.station k.here.there in
     let b = is_begun core.own old core s c.in-Ok.at m pair reached stands k.here k.live c.in-Some.number next c.in-Ok-next_record.ensures.small c.in-Some.ensures.fits mid c.in-Ok-create.next c.in-Ok-create.ensures.frame c.in-Ok-create.ensures.does
-    put c.in-Ok-next_record.change c.in-Ok-next_record.ensures.text c.in-Done.ensures.does in
+    put c.add_log.new.self c.in-Ok-next_record.changes.items c.in-Ok-next_record.ensures.text done.records done.queues done.ids done.forms done.recorded in
     let here : HasStation put (of core.own m) core.stations s c.in-Ok.at =
     record { server = k.here.server; known = k.here.known; number = k.here.number; station = k.here.station; there = k.here.there; first = k.here.first; found = k.here.found; stands = b.station } in
     let open_now = is_open core.own old core s c.in-Ok.at m pair reached stands k.here k.live in
     let none = none_in_next core.own pair m reached s k.here.server k.here.known in
-    let given = c.in-Err-StoreFault-end_log.ensures.does (of core.own m) s here open_now.sealed (orderly core.own pair m reached) none b.writer b.told b.stands in
+    let given = c.in-Err-StoreFault-end_log.ensures.does (of core.own m) s here open_now.sealed (orderly core.own pair m reached) none b.writer b.told b.tells b.stands in
     let d = rw c.in-Err-StoreFault-end_log.field-0-is at given in
     let new : Contents = g.V.Vault.contents c.end_log.new.own in
     roll_unsealed way core.own s m k.here.server k.here.known k.live k.settled new c.end_log.new.core c.in-Err-StoreFault-end_log.count
-    (subst (λ (x : ClusterCore). Stands core.own new x (of core.own m)) (sym d.0) (subst (λ (x : Contents). Stands core.own x core (of core.own m)) (sym d.1) b.stands))
+    (subst (λ (x : ClusterCore). Stands core.own new x (of core.own m)) (sym d.0) (subst (λ (x : Contents). Stands core.own x logged (of core.own m)) (sym d.1) b.stands))
 
 pub returns-in-Ok-end_log-clause-does : goal.returns-in-Ok-end_log-clause-does
 returns-in-Ok-end_log-clause-does g c = λ way m reached pair stands.
@@ -97,16 +106,18 @@ returns-in-Ok-end_log-clause-does g c = λ way m reached pair stands.
     let s : ℕ = c.args.server in
     let old : Contents = g.V.Vault.contents c.args.own.now in
     let mid : Contents = g.V.Vault.contents c.create.new.vault in
-    let put : Contents = g.V.Vault.contents c.put_records.new.own in
+    let put : Contents = g.V.Vault.contents c.add_log.new.vault in
+    let done = c.in-Ok-add_log.ensures in
+    let logged : ClusterCore = record core { queues = c.add_log.new.self } in
     let k = c.in-Ok.ensures.state old m stands.servers in
     let next = c.in-Some.ensures.next k.here.station k.here.there in
     let b = is_begun core.own old core s c.in-Ok.at m pair reached stands k.here k.live c.in-Some.number next c.in-Ok-next_record.ensures.small c.in-Some.ensures.fits mid c.in-Ok-create.next c.in-Ok-create.ensures.frame c.in-Ok-create.ensures.does
-    put c.in-Ok-next_record.change c.in-Ok-next_record.ensures.text c.in-Done.ensures.does in
+    put c.add_log.new.self c.in-Ok-next_record.changes.items c.in-Ok-next_record.ensures.text done.records done.queues done.ids done.forms done.recorded in
     let here : HasStation put (of core.own m) core.stations s c.in-Ok.at =
     record { server = k.here.server; known = k.here.known; number = k.here.number; station = k.here.station; there = k.here.there; first = k.here.first; found = k.here.found; stands = b.station } in
     let open_now = is_open core.own old core s c.in-Ok.at m pair reached stands k.here k.live in
     let none = none_in_next core.own pair m reached s k.here.server k.here.known in
-    let d = c.in-Ok-end_log.ensures.does (of core.own m) s here open_now.sealed (orderly core.own pair m reached) none b.writer b.told b.stands in
+    let d = c.in-Ok-end_log.ensures.does (of core.own m) s here open_now.sealed (orderly core.own pair m reached) none b.writer b.told b.tells b.stands in
     let new : Contents = g.V.Vault.contents c.end_log.new.own in
     let dropped : ℕ = c.in-Ok-end_log.ended.dropped in
     let tickets = c.in-Ok-end_log.ended.tickets in
