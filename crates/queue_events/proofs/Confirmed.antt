@@ -1,11 +1,10 @@
 -- What speaks against recording a flight, and that recording it is the event's row.
-use Rattle.std.proofs.Common.{ℕ, ◌+◌, ◌≡◌, ◌==◌, Bool, true, false, List, [], ◌∷◌, map, find, length, max, take, Option, Some, None, option_map, refl, ap, sym, ◌∙◌, subst, eqb-true, eq-eqb, IfSome}
+use Rattle.std.proofs.Common.{ℕ, ◌+◌, ◌≡◌, Bool, true, false, List, [], ◌∷◌, map, find, length, max, take, Some, None, option_map, refl, ap, sym, ◌∙◌, subst, eqb-true, IfSome}
 use Rattle.std.specs.List.{AllByRecursion, list_any}
 use Rattle.rep_types.specs.declared.ids.Cluster.{Cluster}
 use Rattle.rep_types.specs.declared.ids.Cluster.TheVariants.{A, B, C}
 use Rattle.rep_types.specs.declared.event.Event.TheVariants as event
 use Rattle.rep_types.specs.declared.refusal.Refusal.TheVariants as refusal
-use Rattle.rep_types.specs.declared.reply.Reply.{Reply}
 use Rattle.rep_types.specs.declared.reply.Reply.TheVariants as reply
 use Rattle.rep_types.specs.declared.state.Call.TheVariants as call
 use Rattle.rep_types.specs.declared.state.Place.{Place}
@@ -25,7 +24,7 @@ use Rattle.rep_model.specs.State.{Route, of, with, is_peer, is_queue, is_flight,
 use Rattle.rep_model.specs.Words.{is_in}
 use Rattle.rep_model.specs.Path.{refusal_of}
 use Rattle.rep_model.specs.Plan.{told}
-use Rattle.rep_model.specs.Peers.{is_enabled, is_removed, peer_of}
+use Rattle.rep_model.specs.Peers.{is_enabled, peer_of}
 use Rattle.rep_model.specs.Row.{answers, is_site, site}
 use Rattle.rep_model.specs.Rows.{row}
 use Rattle.rep_model.specs.QueueEvents.{is_out, flown, landed, recorded, lives as lives_in, confirm_plan}
@@ -58,11 +57,12 @@ use Rattle.cluster_core.proofs.Requeued.{found_same, requeued, owes_requeued, st
 use Rattle.cluster_core.proofs.Simple.{beside_with}
 use Rattle.queue_events.specs.Flights.{sent_at}
 use Rattle.queue_events.specs.Confirming.{MayConfirm, shelf_kept, flight_kept, head_behind, place_behind, greatest_kept, risen}
-use Rattle.queue_events.proofs.Flying.{flight_absent, HasFlight, outs, flies_as}
+use Rattle.queue_events.proofs.Flying.{flight_absent, HasFlight, outs, out_itself, flies_as}
 use Rattle.queue_events.proofs.Known.{added_found, peer_absent, peer_known, queue_absent, queue_known, living_is}
 use Rattle.queue_events.proofs.Landed.{kept_is, head_is, place_is}
 use Rattle.queue_events.proofs.Rising.{pushes}
 use Rattle.queue_events.proofs.Sources.{stays}
+use Rattle.queue_events.proofs.Turned.{said_of}
 
 -- ---- what speaks against it
 
@@ -172,13 +172,6 @@ pub record IsLanded (s : Sent) (core : ClusterCore) (q : QueueRecord) (place : P
   pub forms : next.forms ≡ core.queues.forms
   pub records : IfSome (queue_at s.peer s.server core.queues.queues) (λ (w : QueueRecord). c' ≡ with_records (queue_change (placed place at w) ∷ map (last_change s.peer) ids) c)
   pub recorded : Recorded c core.queues → Recorded c' next
-
--- what is said where there is a queue
-said_of : (o : Option QueueRecord) (q : QueueRecord) (P : QueueRecord → Type 0) → o ≡ Some q → IfSome o P → P q
-said_of o q P e h = subst (λ (w : Option QueueRecord). IfSome w P) e h
-
-out_itself : (n : ℕ) → is_out n (Some n) ≡ true
-out_itself n = eq-eqb n n refl
 
 -- a flight that may be recorded
 module _ (k : ℕ) (m : Machine) (c : Contents) (core : ClusterCore) (f : Flight) (q : QueueRecord) (there : flight_of k m ≡ Some f) (st : Stands f.cluster c core (of f.cluster m)) (may : MayConfirm core k m f q) where

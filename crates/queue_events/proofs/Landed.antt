@@ -1,5 +1,5 @@
 -- The commits of a flight as memory keeps them, and the place behind them.
-use Rattle.std.proofs.Common.{ℕ, ◌+◌, ◌-◌, ◌≤◌, ◌≡◌, ◌⊎◌, inl, inr, true, List, [], ◌∷◌, ◌++◌, drop, find, length, min, slice_get, take, Option, Some, refl, ap, sym, ◌∙◌, subst, arith, append_assoc, length-append}
+use Rattle.std.proofs.Common.{ℕ, ◌+◌, ◌-◌, ◌≤◌, ◌≡◌, ◌⊎◌, inl, inr, true, List, [], ◌∷◌, ◌++◌, drop, find, length, min, take, Option, Some, refl, ap, sym, ◌∙◌, subst, arith, append_assoc, length-append}
 use Rattle.std.proofs.lemmas.List.{take-append-drop, length-take-le}
 use Rattle.std.proofs.Math.Seq.{take-append_seam}
 use Rattle.rep_types.specs.declared.ids.Cluster.{Cluster}
@@ -15,7 +15,6 @@ use Rattle.rep_model.specs.declared.machine.Machine.{Machine}
 use Rattle.rep_model.specs.declared.machine.Commit.{Commit}
 use Rattle.rep_model.specs.declared.machine.Flight.{Flight}
 use Rattle.rep_model.specs.declared.machine.Peer.{Peer}
-use Rattle.rep_model.specs.declared.machine.Server.{Server}
 use Rattle.cluster_core.specs.declared.parts.ClusterCore.{ClusterCore}
 use Rattle.cluster_core.specs.declared.parts.Kept.{Kept}
 use Rattle.cluster_core.specs.declared.parts.Shelf.{Shelf}
@@ -23,7 +22,7 @@ use Rattle.cluster_core.specs.Does.{Reached}
 use Rattle.cluster_core.specs.Entries.{server_commits}
 use Rattle.cluster_core.specs.Lines.{is_shelf}
 use Rattle.cluster_core.specs.Memory.{kept_of, kept_after}
-use Rattle.cluster_core.specs.QueuePlaces.{end_of, IsPlace}
+use Rattle.cluster_core.specs.QueuePlaces.{IsPlace}
 use Rattle.cluster_core.specs.Queues.{IsAt}
 use Rattle.cluster_core.specs.Stands.{Stands}
 use Rattle.cluster_core.proofs.Landing.{end_place, end_fits, end_is_place, frame_end}
