@@ -6,6 +6,7 @@ use Rattle.std.proofs.lemmas.Option.{same_Some}
 use Rattle.std.proofs.Math.Seq.{take-append_seam, drop-append_seam}
 use Rattle.rep_types.specs.declared.ids.Cluster.{Cluster}
 use Rattle.rep_types.specs.declared.state.Place.{Place}
+use Rattle.wal_entry.specs.Length.{frame_length}
 use Rattle.rep_model.specs.State.{Route, of, is_server}
 use Rattle.rep_model.specs.Words.{is_in}
 use Rattle.rep_model.specs.Runs.{state_on}
@@ -18,9 +19,9 @@ use Rattle.rep_laws.proofs.Steady.{steady_run}
 use Rattle.cluster_core.specs.declared.parts.Kept.{Kept}
 use Rattle.cluster_core.specs.Does.{Reached}
 use Rattle.cluster_core.specs.Entries.{server_commits}
-use Rattle.cluster_core.specs.Memory.{kept_after}
+use Rattle.cluster_core.specs.Memory.{kept_of, kept_after}
 use Rattle.cluster_core.specs.QueuePlaces.{kept_by, EndsBy, BeginsFrom, Divides, end_of, IsWithin, IsPlace}
-use Rattle.cluster_core.proofs.Divided.{IsEarlier, IsLater, begin_behind, end_before, end_grows, end_of_server}
+use Rattle.cluster_core.proofs.Divided.{IsEarlier, IsLater, begin_behind, end_before, end_grows, end_of_server, end_pushed}
 use Rattle.cluster_core.proofs.QueueLookups.{kept_length}
 use Rattle.cluster_core.proofs.Shelving.{kept_append}
 
@@ -102,6 +103,10 @@ module _ {way : Route} (own : Cluster) (m : Machine) (pair : is_in way own ≡ t
 
   reaches : end_of s y.log (front ++ y ∷ []) ≤ end_of s y.log (of own m).commits
   reaches = subst (λ n. end_of s y.log (front ++ y ∷ []) ≤ n) (ap (end_of s y.log) (sym (split ∙ whole)) ∙ end_of_server s y.log (of own m).commits) (end_grows s y.log (front ++ y ∷ []) back)
+
+  -- it is where memory keeps its frame, and behind that
+  pub frame_end : end_of s y.log (front ++ y ∷ []) ≡ (kept_of front y).offset + (kept_of front y).length
+  frame_end = end_pushed s y.log front y (its_server, refl) ∙ ap (λ t. end_of t y.log front + frame_length y.kind) (sym its_server)
 
   -- no log is longer than 65,536 bytes
   pub end_fits : end_of s y.log (front ++ y ∷ []) ≤ 65536

@@ -1,5 +1,5 @@
 -- A queue has another owner or another flight: memory and a store stand for the side in which it has.
-use Rattle.std.proofs.Common.{ℕ, ◌≡◌, List, map, Option, Some, refl, ap, sym, ◌∙◌, subst, MatchOption}
+use Rattle.std.proofs.Common.{ℕ, ◌≡◌, List, map, Option, Some, refl, ap, sym, ◌∙◌, subst, IfSome, MatchOption}
 use Rattle.std.specs.List.{AllByRecursion}
 use Rattle.rep_types.specs.declared.ids.Cluster.{Cluster}
 use Rattle.rep_vault.specs.Contents.{Contents}
@@ -61,6 +61,10 @@ module _ (own : Cluster) (c : Contents) (core : ClusterCore) (side : Side) (k : 
       → Recorded c' next → RecordsStand c' (turned_side q owner flight side) → Stands own c' (record core { queues = next }) (turned_side q owner flight side)
   turned_stands c' next files folder queues ids forms recorded records =
       stands_requeued own c c' core side core.peers next side.peers (turned_queues q owner flight side.queues) side.forms k files folder (queues_turned next queues ids forms) recorded records
+
+-- what is said where there is a queue
+pub said_of : (o : Option QueueRecord) (q : QueueRecord) (P : QueueRecord → Type 0) → o ≡ Some q → IfSome o P → P q
+said_of o q P e h = subst (λ (w : Option QueueRecord). IfSome w P) e h
 
 -- a queue has another flight, which no record tells
 pub record IsFlown (p s : ℕ) (flight : Option ℕ) (old next : Storage) : Type 0 where
