@@ -2,8 +2,10 @@
 #![tactic(auto)]
 
 mod additions;
+mod forms;
 mod peers;
 mod records;
 mod tables;
 
+pub use forms::{migrate, migrate_begin, migrate_end, old_queues};
 pub use peers::peer;
