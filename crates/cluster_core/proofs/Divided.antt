@@ -38,7 +38,7 @@ end_grows s l C N =
 pub end_of_server : (s l : ℕ) (C : List Commit) → end_of s l (server_commits s C) ≡ end_of s l C
 end_of_server s l C = ap commits_length (filter_within (λ (x : Commit). (x.server == s) && (x.log == l)) (λ (x : Commit). x.server == s) C (λ x h. (and_parts (x.server == s) (x.log == l) h).0))
 
-end_pushed : (s l : ℕ) (B : List Commit) (x : Commit) → OfLog s l x → end_of s l (B ++ x ∷ []) ≡ end_of s l B + frame_length x.kind
+pub end_pushed : (s l : ℕ) (B : List Commit) (x : Commit) → OfLog s l x → end_of s l (B ++ x ∷ []) ≡ end_of s l B + frame_length x.kind
 end_pushed s l B x o = ap commits_length (log_push s l B x o) ∙ length_push (log_commits s l B) x
 
 -- ---- frames before a place, and behind it

@@ -40,7 +40,7 @@ use Rattle.cluster_core.proofs.Requeued.{record_numbers, owes_requeued}
 use Rattle.cluster_core.proofs.Simple.{does_with, does_nothing}
 use Rattle.queue_events.specs.Claiming.{MayClaim}
 use Rattle.queue_events.proofs.Known.{peer_known, peer_absent, queue_known, queue_absent, living_is}
-use Rattle.queue_events.proofs.Turned.{turned_queues, turned_side, turned_stands}
+use Rattle.queue_events.proofs.Turned.{turned_queues, turned_side, turned_stands, said_of}
 
 -- ---- servers
 
@@ -141,19 +141,15 @@ module _ (own : Cluster) (c : Contents) (core : ClusterCore) (m : Machine) (k : 
       (record { small = tt; owed = tt }, tt)
       (λ key small aside o. owes_requeued (of own m) (of own m).peers (turned_queues may.queued by None (of own m).queues) (of own m).forms key (λ i e. refl) o)
 
-  -- where there was a queue, the call of the queue store says this of it
-  said_of : (o : Option QueueRecord) (P : QueueRecord → Type 0) → o ≡ Some may.queued → IfSome o P → P may.queued
-  said_of o P e h = subst (λ (w : Option QueueRecord). IfSome w P) e h
-
   pub claim_done : (way : Route) (c' : Contents) (next : Storage)
       → IfSome (queue_at p s core.queues.queues) (λ (q : QueueRecord). next.queues ≡ replace (is_record p s) (owned by q) core.queues.queues) → next.ids ≡ core.queues.ids → next.forms ≡ core.queues.forms
       → IfSome (queue_at p s core.queues.queues) (λ (q : QueueRecord). c' ≡ with_records (queue_change (owned by q) ∷ []) c) → (Recorded c core.queues → Recorded c' next)
       → Does own (row way (event.Claim own by s p) reply.Done m) m c' (record core { queues = next }) reply.Done
   claim_done way c' next queues ids forms put recorded =
       let is : c' ≡ with_records (queue_change (owned by may.queued) ∷ []) c =
-      said_of (queue_at p s core.queues.queues) (λ (q : QueueRecord). c' ≡ with_records (queue_change (owned by q) ∷ []) c) may.found put in
+      said_of (queue_at p s core.queues.queues) may.queued (λ (q : QueueRecord). c' ≡ with_records (queue_change (owned by q) ∷ []) c) may.found put in
       let changes : next.queues ≡ replace (is_record p s) (owned by may.queued) core.queues.queues =
-      said_of (queue_at p s core.queues.queues) (λ (q : QueueRecord). next.queues ≡ replace (is_record p s) (owned by q) core.queues.queues) may.found queues in
+      said_of (queue_at p s core.queues.queues) may.queued (λ (q : QueueRecord). next.queues ≡ replace (is_record p s) (owned by q) core.queues.queues) may.found queues in
       let files : c'.files ≡ c.files = ap (λ (d : Contents). d.files) is ∙ files_records (queue_change (owned by may.queued) ∷ []) c in
       let folder : c'.stands wal ≡ c.stands wal = ap (λ (d : Contents). d.stands wal) is ∙ ap (λ (f : List ℕ → Bool). f wal) (stands_records (queue_change (owned by may.queued) ∷ []) c) in
       does_with own (row way (event.Claim own by s p) reply.Done m) m side c' (record core { queues = next }) reply.Done (claimed_is ∙ ap (answers reply.Done) left_is)

@@ -1,5 +1,5 @@
 -- Flights in memory, and how the answer of an event of flights is put together.
-use Rattle.std.proofs.Common.{ℕ, ◌≡◌, ◌==◌, true, false, List, map, Option, Some, None, refl, ap, sym, ◌∙◌, subst, eqb-true, IfSome}
+use Rattle.std.proofs.Common.{ℕ, ◌≡◌, ◌==◌, true, false, List, map, Option, Some, None, refl, ap, sym, ◌∙◌, subst, eqb-true, eq-eqb, IfSome}
 use Rattle.std.proofs.lemmas.Bool.{false≢true}
 use Rattle.rep_types.specs.declared.ids.Cluster.{Cluster}
 use Rattle.rep_types.specs.declared.refusal.Refusal.{Refusal}
@@ -46,6 +46,9 @@ has_flight {way} own c core m fs k s r stands flights from e =
 pub outs : (k : ℕ) (r : Option ℕ) → is_out k r ≡ true → r ≡ Some k
 outs k None h = absurd (false≢true h)
 outs k (Some n) h = ap Some (eqb-true n k h)
+
+pub out_itself : (k : ℕ) → is_out k (Some k) ≡ true
+out_itself k = eq-eqb k k refl
 
 -- ---- answers
 

@@ -9,10 +9,12 @@ pub mod Forms
 pub mod Framing
 pub mod Going
 pub mod Known
+pub mod Landed
 pub mod Lost
 pub mod Merging
 pub mod Midway
 pub mod Pieces
+pub mod Rising
 pub mod Sendable
 pub mod Sends
 pub mod Sources

@@ -1,5 +1,5 @@
 -- When a flight may be lost, and that losing it is the event's row.
-use Rattle.std.proofs.Common.{ℕ, ◌≡◌, not, Bool, true, false, List, map, Option, Some, None, option_map, refl, ap, sym, ◌∙◌, subst, eq-eqb, IfSome}
+use Rattle.std.proofs.Common.{ℕ, ◌≡◌, not, Bool, true, false, List, map, Option, Some, None, option_map, refl, ap, sym, ◌∙◌, subst, IfSome}
 use Rattle.std.proofs.lemmas.Option.{none-some}
 use Rattle.rep_types.specs.declared.ids.Cluster.{Cluster}
 use Rattle.rep_types.specs.declared.event.Event.TheVariants as event
@@ -29,7 +29,7 @@ use Rattle.cluster_core.specs.Does.{Reached, sent_of, Flies}
 use Rattle.cluster_core.proofs.Simple.{beside_with}
 use Rattle.queue_events.specs.Flights.{sent_at, IsFrom}
 use Rattle.queue_events.specs.Losing.{outstanding, MayLose}
-use Rattle.queue_events.proofs.Flying.{flight_absent, HasFlight, outs, flies_as}
+use Rattle.queue_events.proofs.Flying.{flight_absent, HasFlight, outs, out_itself, flies_as}
 use Rattle.queue_events.proofs.Known.{queue_is, queue_known}
 use Rattle.queue_events.proofs.Turned.{IsFlown, turned_side, flown_stands}
 
@@ -101,9 +101,6 @@ module _ {way : Route} (own : Cluster) (c : Contents) (core : ClusterCore) (m : 
 landed_is : (f : Flight) (q : QueueRecord) (m : Machine) → flight_queue f m ≡ Some (as_queue q) → landed f m ≡ with f.cluster (turned_side q q.owner None (of f.cluster m)) m
 unfolding given
 landed_is f q m e = ap (λ (o : Option Queue). given o m (λ (x : Queue). with_queue f.cluster (record x { flight = None }) m)) e
-
-out_itself : (k : ℕ) → is_out k (Some k) ≡ true
-out_itself k = eq-eqb k k refl
 
 module _ {way : Route} (k : ℕ) (m : Machine) (c : Contents) (core : ClusterCore) (fs : List Sent) (s : Sent) (flights : fs ≡ map (sent_of way) m.flights)
     (may : MayLose way core k m s) (next : Storage) (flown : IsFlown s.peer s.server None core.queues next) where

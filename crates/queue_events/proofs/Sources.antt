@@ -61,7 +61,7 @@ LogsKept own m = (p s : ℕ) (x : Peer) (v : Server) → peer_of own p m ≡ Som
 abbrev KeptIn : Cluster → Machine → Type 0
 KeptIn own m = (x : Peer) → In x (of own m).peers → is_removed x.standing ≡ false → (v : Server) → In v (of own m).servers → (y : Commit) → In y (queue x v.number (of own m).commits) → v.lowest ≤ y.log
 
-stays : (o : Option Peer) (x : Peer) → added_one o ≡ Some x → is_removed x.standing ≡ false
+pub stays : (o : Option Peer) (x : Peer) → added_one o ≡ Some x → is_removed x.standing ≡ false
 unfolding given
 stays None x e = absurd (none-some x e)
 stays (Some y) x e = cond_both (is_removed y.standing) None (Some y) (λ w. w ≡ Some x → is_removed x.standing ≡ false) (λ _ h. absurd (none-some x h)) (λ b h. ap (λ (z : Peer). is_removed z.standing) (sym (same_Some y x h)) ∙ b) e

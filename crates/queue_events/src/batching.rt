@@ -6,8 +6,8 @@ use cluster_core::{ClusterCore, Kept, find_shelf};
 use rep_types::{Items, Memory, PeerId, ServerId};
 use std::alloc::Global;
 
-// What stands from this place on.
-fn after(kept: &[Kept], at: u64) -> &[Kept]
+/// What stands from this place on.
+pub fn after(kept: &[Kept], at: u64) -> &[Kept]
     ensures { result.now ≡ drop at kept.now }
 {
     let start = (at as usize).min(kept.len());

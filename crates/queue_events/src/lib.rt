@@ -8,6 +8,7 @@ mod claiming;
 mod delivering;
 mod flights;
 mod forming;
+mod landing;
 mod losing;
 mod reading;
 mod recording;

@@ -2,82 +2,98 @@
 ghost use Rattle.std.specs.Prelude.{◌≡◌, true, Some, map, IfOk, MatchResult};
 ghost use Rattle.rep_types.specs.declared.event.Event.TheVariants as event;
 ghost use Rattle.rep_vault.specs.Contents.{Contents};
-ghost use Rattle.rep_model.specs.Calm.{is_calm};
+ghost use Rattle.queue_storage.specs.Queues.{queue_at};
 ghost use Rattle.rep_model.specs.QueueEvents.{confirm_plan};
 ghost use Rattle.rep_model.specs.Path.{refusal_of};
-ghost use Rattle.rep_model.specs.State.{Route, of};
+ghost use Rattle.rep_model.specs.State.{Route, of, flight_of};
 ghost use Rattle.rep_model.specs.Words.{is_in};
+ghost use Rattle.rep_model.specs.declared.machine.Flight.{Flight};
 ghost use Rattle.rep_model.specs.declared.machine.Machine.{Machine};
 ghost use Rattle.cluster_core.specs.Stands.{Stands};
-ghost use Rattle.cluster_core.specs.Does.{Reached, sent_of, FliesOr};
+ghost use Rattle.cluster_core.specs.Does.{Reached, Counts, FaultTold, sent_of, FliesOr};
 ghost use Rattle.queue_events.specs.Flights.{IsFrom};
-ghost use Rattle.queue_events.specs.Confirming.{MayConfirm, landed};
+ghost use Rattle.queue_events.specs.Confirming.{MayConfirm};
 
 use crate::flights::{find_sent, is_out};
-use cluster_core::{
-    ClusterCore, CoreError, Sent, added_peer, find_line, is_live, set_landed, shelf_length,
-};
-use rep_types::{Items, Refusal, Reply};
+use crate::landing::{flight_kept, head_behind, place_behind, raised, shelf_kept};
+use cluster_core::{ClusterCore, CoreError, Sent, added_peer, is_live};
+use queue_storage::{QueueError, QueueRecord};
+use rep_types::{Call, Items, Refusal, Reply};
+use rep_vault::Vault;
+use std::alloc::Global;
 
-/// The flight that may be recorded, or why it isn't.
+// The queue of a flight that may be recorded, or why the flight isn't.
 fn may_confirm<'a>(
-    core: &ClusterCore,
-    flights: &'a Items<Sent>,
+    core: &'a ClusterCore,
+    sent: &Sent,
     flight: u32,
-) -> Result<&'a Sent, Refusal>
-    ensures { (way : Route) (c : Contents) (m : Machine) → Reached way m → Stands core.now.own c core.now (of core.now.own m)
-        → flights.now ≡ map (sent_of way) m.flights → IsFrom core.now.own flight m
-        → MatchResult result (λ sent. MayConfirm way core.now flight m sent.now) (λ why. refusal_of (confirm_plan flight m) ≡ Some why) }
+) -> Result<&'a QueueRecord, Refusal>
+    ensures found { IfOk result (λ queue. queue_at sent.now.peer sent.now.server core.now.queues.queues ≡ Some queue.now) }
+    ensures state { (way : Route) (c : Contents) (m : Machine) (f : Flight) → Stands core.now.own c core.now (of core.now.own m)
+        → flight_of flight m ≡ Some f → f.cluster ≡ core.now.own → sent.now ≡ sent_of way f
+        → MatchResult result (λ queue. MayConfirm core.now flight m f queue.now) (λ why. refusal_of (confirm_plan flight m) ≡ Some why) }
 {
-    let Some(sent) = find_sent(flights, flight) else {
-        return Err(Refusal::NoFlight);
-    };
     let Some(_) = added_peer(&core.peers, sent.peer) else {
         return Err(Refusal::NoPeer);
     };
-    let Some(line) = find_line(&core.lines, sent.peer, sent.server) else {
+    let Some(queue) = core.queues.queue(sent.peer, sent.server) else {
         return Err(Refusal::Stale { now: None });
     };
-    if !is_out(line.flight, flight) {
-        return Err(Refusal::Stale { now: line.flight });
+    if !is_out(queue.flight, flight) {
+        return Err(Refusal::Stale { now: queue.flight });
     }
-    if !is_live(&core.stations, line.owner) {
-        return Err(Refusal::OwnerDead { by: line.owner });
+    if !is_live(&core.stations, queue.owner) {
+        return Err(Refusal::OwnerDead { by: queue.owner });
     }
     if !sent.delivered {
         return Err(Refusal::NotDelivered { flight });
     }
-    Ok(sent)
+    Ok(queue)
 }
 
-/// The queue's head stands behind the flight's entries.
-#[tactic(auto, unfolding(rep_model::specs::Keyed::given))]
-fn land(core: &mut ClusterCore, sent: &Sent)
-    ensures { core.new ≡ landed sent.now core.old }
-{
-    let end = shelf_length(&core.index.shelves, sent.server);
-    set_landed(&mut core.lines, sent.peer, sent.server, sent.entries, end);
-}
-
-/// The peer records the entries of a delivered flight, and the head of the queue that it was sent from
-/// stands behind them. The core is that of the flight's source. No call of its store is made.
-pub fn confirm(
+/// The peer records the entries of a delivered flight, and the head of the queue that it was sent from stands behind them, by
+/// one put of the queue's record and of the peer's last pushed ids that rise. The core is that of the flight's source.
+pub fn confirm<V: Vault>(
     core: &mut ClusterCore,
+    alloc: Global,
+    own: &mut V,
     flights: &Items<Sent>,
     flight: u32,
 ) -> Result<Reply, CoreError>
-    ensures does { (way : Route) (c : Contents) (m : Machine) → Reached way m → is_in way core.old.own ≡ true → Stands core.old.own c core.old (of core.old.own m)
+    ensures does { (way : Route) (m : Machine) → Reached way m → is_in way core.old.own ≡ true → Stands core.old.own (V.contents own.old) core.old (of core.old.own m)
         → flights.now ≡ map (sent_of way) m.flights → IsFrom core.old.own flight m
-        → FliesOr way core.old.own (event.Confirm flight) m c core.old flights.now c core.new flights.now result }
-    ensures calm { IfOk result (λ reply. is_calm reply ≡ true) }
+        → FliesOr way core.old.own (event.Confirm flight) m (V.contents own.old) core.old flights.now (V.contents own.new) core.new flights.now result }
+    ensures counts { Counts (V.tally own.old) (V.tally own.new) }
+    ensures told { IfOk result (λ reply. FaultTold core.old.own reply (V.tally own.old) (V.tally own.new)) }
 {
-    match may_confirm(core, flights, flight) {
-        Ok(sent) => {
-            land(core, sent);
-            Ok(Reply::Recorded {
-                entries: sent.entries,
-            })
-        }
-        Err(why) => Ok(Reply::Refused(why)),
+    let Some(sent) = find_sent(flights, flight) else {
+        return Ok(Reply::Refused(Refusal::NoFlight));
+    };
+    let queue = match may_confirm(core, sent, flight) {
+        Ok(queue) => queue,
+        Err(why) => return Ok(Reply::Refused(why)),
+    };
+    let kept = shelf_kept(core, sent.server);
+    let landed = flight_kept(kept, queue.at, sent.entries);
+    let place = place_behind(landed, queue.place);
+    let at = head_behind(kept, queue.at, sent.entries);
+    let ids = match raised(alloc, &core.queues, sent.peer, landed) {
+        Ok(ids) => ids,
+        Err(_) => return Err(CoreError::Memory { changed: false }),
+    };
+    match core
+        .queues
+        .record_place(own, sent.peer, sent.server, place, at, ids.as_slice())
+    {
+        Ok(()) => Ok(Reply::Recorded {
+            entries: sent.entries,
+        }),
+        Err(QueueError::NoQueue) => unreachable!(),
+        Err(QueueError::StoreFault { count }) => Ok(Reply::StoreFault {
+            store: core.own,
+            call: Call::Put,
+            count,
+        }),
+        Err(QueueError::Memory) => Err(CoreError::Memory { changed: false }),
     }
 }
