@@ -1,1 +1,3 @@
+pub mod LastCommits
+pub mod NewQueues
 pub mod PeerAdded

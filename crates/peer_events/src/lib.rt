@@ -1,8 +1,8 @@
 //! Events of peers: what they do to one cluster's memory and store.
 #![tactic(auto)]
 
-mod additions;
 mod peers;
+mod queues;
 mod records;
 mod tables;
 
