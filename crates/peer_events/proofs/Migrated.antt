@@ -31,7 +31,7 @@ use Rattle.cluster_core.specs.Stands.{RecordsStand, Stands}
 use Rattle.cluster_core.specs.Texts.{OfQueue}
 use Rattle.cluster_core.proofs.Known.{peer_known, peer_absent, queue_known, queue_absent}
 use Rattle.cluster_core.proofs.RecordsPut.{Put, records_put}
-use Rattle.cluster_core.proofs.Replaced.{with_record, replaced_side, stands_replaced}
+use Rattle.cluster_core.proofs.Replaced.{said_of, with_record, replaced_side, stands_replaced}
 use Rattle.cluster_core.proofs.Requeued.{owes_requeued}
 use Rattle.cluster_core.proofs.Simple.{does_with}
 use Rattle.peer_events.specs.Migrating.{grouped_put, MayMigrate}
@@ -89,10 +89,6 @@ module _ (own : Cluster) (c : Contents) (core : ClusterCore) (m : Machine) (k : 
       (record { small = tt; owed = tt }, tt)
       (λ key small aside o. owes_requeued (of own m) (of own m).peers (with_record new (of own m).queues) (of own m).forms key (λ i e. refl) o)
 
-  -- where there was a queue, the call of the queue store says this of it
-  said_of : (o : Option QueueRecord) (P : QueueRecord → Type 0) → o ≡ Some may.queued → IfSome o P → P may.queued
-  said_of o P e h = subst (λ (w : Option QueueRecord). IfSome w P) e h
-
   -- a queue's place doesn't know the form of its record
   same_place : IsAt (of own m) may.queued → IsAt (of own m) new
   same_place a =
@@ -104,9 +100,9 @@ module _ (own : Cluster) (c : Contents) (core : ClusterCore) (m : Machine) (k : 
       → Does own (told (grouped_put own (as_queue may.queued) m) reply.Done m) m c' (record core { queues = next }) reply.Done
   migrate_done c' next queues ids forms put recorded =
       let is : c' ≡ with_records (queue_change new ∷ []) c =
-      said_of (queue_at p s core.queues.queues) (λ (q : QueueRecord). c' ≡ with_records (queue_change (grouped q) ∷ []) c) may.found put in
+      said_of (queue_at p s core.queues.queues) may.queued (λ (q : QueueRecord). c' ≡ with_records (queue_change (grouped q) ∷ []) c) may.found put in
       let changes : next.queues ≡ replace (is_record p s) new core.queues.queues =
-      said_of (queue_at p s core.queues.queues) (λ (q : QueueRecord). next.queues ≡ replace (is_record p s) (grouped q) core.queues.queues) may.found queues in
+      said_of (queue_at p s core.queues.queues) may.queued (λ (q : QueueRecord). next.queues ≡ replace (is_record p s) (grouped q) core.queues.queues) may.found queues in
       let files : c'.files ≡ c.files = ap (λ (d : Contents). d.files) is ∙ files_records (queue_change new ∷ []) c in
       let folder : c'.stands wal ≡ c.stands wal = ap (λ (d : Contents). d.stands wal) is ∙ ap (λ (f : List ℕ → Bool). f wal) (stands_records (queue_change new ∷ []) c) in
       let here : IsAt (of own m) new = same_place (All_found (IsAt (of own m)) (is_record p s) core.queues.queues may.queued may.found k.queues.at) in

@@ -1,9 +1,9 @@
 //! Events of peers: what they do to one cluster's memory and store.
 #![tactic(auto)]
 
-mod additions;
 mod forms;
 mod peers;
+mod queues;
 mod records;
 mod tables;
 
