@@ -1,5 +1,5 @@
 -- One queue gives way to another of its peer and its server: memory and a store stand for the side in which it does.
-use Rattle.std.proofs.Common.{ℕ, ◌≡◌, List, map, Some, refl, ap, sym, ◌∙◌, subst}
+use Rattle.std.proofs.Common.{ℕ, ◌≡◌, List, map, Option, Some, IfSome, refl, ap, sym, ◌∙◌, subst}
 use Rattle.std.specs.List.{AllByRecursion}
 use Rattle.rep_types.specs.declared.ids.Cluster.{Cluster}
 use Rattle.rep_vault.specs.Contents.{Contents}
@@ -18,6 +18,10 @@ use Rattle.cluster_core.specs.Queues.{queue_of as as_queue, IsAt, QueuesStand}
 use Rattle.cluster_core.specs.Stands.{RecordsStand, Stands}
 use Rattle.cluster_core.proofs.Requeued.{map_replace, record_numbers, requeued, stands_requeued}
 use Rattle.cluster_core.proofs.Staying.{is_same_peer, is_same_server, queue_kept, queues_kept}
+
+-- what is said where there is a queue
+pub said_of : (o : Option QueueRecord) (q : QueueRecord) (P : QueueRecord → Type 0) → o ≡ Some q → IfSome o P → P q
+said_of o q P e h = subst (λ (w : Option QueueRecord). IfSome w P) e h
 
 -- the queue of this record's peer and server is this one, and the others are as they were
 abbrev pub with_record : QueueRecord → List Queue → List Queue

@@ -1,1 +1,5 @@
+pub mod Formed
+pub mod LastCommits
+pub mod Migrated
+pub mod NewQueues
 pub mod PeerAdded

@@ -1,5 +1,5 @@
 -- A queue has another owner or another flight: memory and a store stand for the side in which it has.
-use Rattle.std.proofs.Common.{ℕ, ◌≡◌, List, Option, Some, refl, subst, IfSome, MatchOption}
+use Rattle.std.proofs.Common.{ℕ, ◌≡◌, List, Option, Some, refl, subst, MatchOption}
 use Rattle.rep_types.specs.declared.ids.Cluster.{Cluster}
 use Rattle.rep_vault.specs.Contents.{Contents}
 use Rattle.wal_roll.specs.Log.{wal}
@@ -16,6 +16,7 @@ use Rattle.cluster_core.specs.Stands.{RecordsStand, Stands}
 use Rattle.cluster_core.proofs.RecordsPut.{records_kept}
 use Rattle.cluster_core.proofs.Replaced.{with_record, replaced_side, stands_replaced}
 use Rattle.cluster_core.proofs.Requeued.{owes_requeued}
+pub use Rattle.cluster_core.proofs.Replaced.{said_of}
 
 -- the queue of this record has this owner and this flight, and the others are as they were
 abbrev pub turned_queues : QueueRecord → ℕ → Option ℕ → List Queue → List Queue
@@ -38,10 +39,6 @@ module _ (own : Cluster) (c : Contents) (core : ClusterCore) (side : Side) (k : 
       let here : IsAt side (record q { owner = owner; flight = flight }) =
       same_place side q owner flight (All_found (IsAt side) (is_record p s) core.queues.queues q found k.queues.at) in
       stands_replaced core side k.queues p s q (record q { owner = owner; flight = flight }) found refl refl here own c c' next k files folder queues ids forms recorded records
-
--- what is said where there is a queue
-pub said_of : (o : Option QueueRecord) (q : QueueRecord) (P : QueueRecord → Type 0) → o ≡ Some q → IfSome o P → P q
-said_of o q P e h = subst (λ (w : Option QueueRecord). IfSome w P) e h
 
 -- a queue has another flight, which no record tells
 pub record IsFlown (p s : ℕ) (flight : Option ℕ) (old next : Storage) : Type 0 where
