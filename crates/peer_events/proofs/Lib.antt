@@ -1,3 +1,5 @@
+pub mod Enabled
 pub mod LastCommits
 pub mod NewQueues
 pub mod PeerAdded
+pub mod Restood

@@ -4,6 +4,8 @@
 mod peers;
 mod queues;
 mod records;
+mod standings;
 mod tables;
 
 pub use peers::peer;
+pub use standings::{disable, enable};
