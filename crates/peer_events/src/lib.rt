@@ -4,8 +4,10 @@
 mod peers;
 mod queues;
 mod records;
+mod removing;
 mod standings;
 mod tables;
 
 pub use peers::peer;
+pub use removing::remove;
 pub use standings::{disable, enable};

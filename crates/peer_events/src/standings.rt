@@ -1,8 +1,7 @@
-// Peers are enabled, disabled and removed.
+// Peers are enabled and disabled.
 ghost use Rattle.std.specs.Prelude.{◌≡◌, true, false, IfOk, position};
 ghost use Rattle.rep_types.specs.declared.event.Event.TheVariants as event;
-ghost use Rattle.rep_types.specs.declared.state.Kind.TheVariants.{Plain};
-ghost use Rattle.rep_model.specs.Peers.{is_removed, is_synchronous};
+ghost use Rattle.rep_model.specs.Peers.{is_removed};
 ghost use Rattle.rep_model.specs.State.{Route, of};
 ghost use Rattle.rep_model.specs.Words.{is_in};
 ghost use Rattle.rep_model.specs.declared.machine.Machine.{Machine};
@@ -25,7 +24,8 @@ fn peer_place(peers: &Items<PeerLine>, peer: PeerId) -> Option<usize>
     peers.as_slice().iter().position(|line| line.number == peer)
 }
 
-fn set_standing(peers: &mut Items<PeerLine>, peer: PeerId, standing: Standing)
+/// The peer has this standing from now on.
+pub fn set_standing(peers: &mut Items<PeerLine>, peer: PeerId, standing: Standing)
     ensures { HasStanding peer standing peers.old peers.new }
 {
     match peer_place(peers, peer) {
