@@ -1,5 +1,5 @@
 -- A peer that isn't removed is enabled or disabled.
-use Rattle.std.proofs.Common.{decimal, ℕ, inl, inr, ◌<◌, ◌^◌, ◌≡◌, true, false, cond, max, List, [], ◌∷◌, find, take, Option, Some, None, Result, Ok, Err, refl, ap, sym, ◌∙◌, subst, eqb-true}
+use Rattle.std.proofs.Common.{decimal, ℕ, inl, inr, ◌<◌, ◌^◌, ◌≡◌, false, cond, max, List, [], ◌∷◌, find, take, Option, Some, None, Result, Ok, Err, refl, ap, sym, ◌∙◌, subst, eqb-true}
 use Rattle.std.proofs.lemmas.Bool.{cases_eq}
 use Rattle.rep_types.specs.declared.ids.Cluster.{Cluster}
 use Rattle.rep_types.specs.declared.event.Event.TheVariants as event
