@@ -5,6 +5,7 @@ use Rattle.rep_types.specs.declared.ids.Cluster.{Cluster}
 use Rattle.rep_types.specs.declared.ids.Cluster.TheVariants.{A, B, C}
 use Rattle.rep_types.specs.declared.event.Event.TheVariants as event
 use Rattle.rep_types.specs.declared.refusal.Refusal.TheVariants as refusal
+use Rattle.rep_types.specs.declared.reply.Reply.{Reply}
 use Rattle.rep_types.specs.declared.reply.Reply.TheVariants as reply
 use Rattle.rep_types.specs.declared.state.Call.TheVariants as call
 use Rattle.rep_types.specs.declared.state.Place.{Place}
@@ -25,7 +26,7 @@ use Rattle.rep_model.specs.Words.{is_in}
 use Rattle.rep_model.specs.Path.{refusal_of}
 use Rattle.rep_model.specs.Plan.{told}
 use Rattle.rep_model.specs.Peers.{is_enabled, peer_of}
-use Rattle.rep_model.specs.Row.{answers, is_site, site}
+use Rattle.rep_model.specs.Row.{Row, answers, is_site, site}
 use Rattle.rep_model.specs.Rows.{row}
 use Rattle.rep_model.specs.QueueEvents.{is_out, flown, landed, recorded, lives as lives_in, confirm_plan}
 use Rattle.rep_model.specs.declared.machine.Machine.{Machine}
@@ -66,13 +67,14 @@ use Rattle.queue_events.proofs.Turned.{said_of}
 
 -- ---- what speaks against it
 
-pub no_flight : {way : Route} (m : Machine) (fs : List Sent) (k : ℕ) → Reached way m → fs ≡ map (sent_of way) m.flights → sent_at k fs ≡ None → refusal_of (confirm_plan k m) ≡ Some refusal.NoFlight
+pub no_flight : {way : Route} (m : Machine) (fs : List Sent) (k : ℕ) → Reached way m → fs ≡ map (sent_of way) m.flights → sent_at k fs ≡ None
+    → refusal_of (confirm_plan k m) ≡ Some refusal.NoFlight
 unfolding confirm_plan
 no_flight m fs k r flights e = rw (flight_absent m fs k r flights e) refl
 
 -- a flight of the state's that memory has
-abbrev pub known_flight : {way : Route} (own : Cluster) (c : Contents) (core : ClusterCore) (m : Machine) (k : ℕ) (s : Sent) (f : Flight) → Stands own c core (of own m) → flight_of k m ≡ Some f → f.cluster ≡ own → s ≡ sent_of way f
-    → HasFlight way own c core m k s
+abbrev pub known_flight : {way : Route} (own : Cluster) (c : Contents) (core : ClusterCore) (m : Machine) (k : ℕ) (s : Sent) (f : Flight)
+    → Stands own c core (of own m) → flight_of k m ≡ Some f → f.cluster ≡ own → s ≡ sent_of way f → HasFlight way own c core m k s
 known_flight own c core m k s f st there from is =
     record { flight = f; there = there; is = is; from = from; stands = subst (λ (w : Cluster). Stands w c core (of w m)) (sym from) st }
 
@@ -141,13 +143,22 @@ module _ {way : Route} (own : Cluster) (c : Contents) (core : ClusterCore) (m : 
 
 -- ---- the state after it
 
+-- the peer has these entries recorded too, and the queue has no flight
+abbrev side_after : Peer → List Commit → Queue → Side → Side
+side_after x entries q side =
+    requeued (replace (is_peer x.number) (noted x entries) side.peers) (replace (is_queue q.peer q.server) (record q { flight = None }) side.queues) side.forms side
+
 landed_is : (c : Cluster) (p s : ℕ) (entries : List Commit) (x : Peer) (q : Queue) (m : Machine) → find (is_peer p) (of c m).peers ≡ Some x → find (is_queue p s) (of c m).queues ≡ Some q
     → flown c p s None (recorded c p entries m)
-    ≡ with c (requeued (replace (is_peer x.number) (noted x entries) (of c m).peers) (replace (is_queue q.peer q.server) (record q { flight = None }) (of c m).queues) (of c m).forms (of c m)) m
+    ≡ with c (side_after x entries q (of c m)) m
 unfolding given
 landed_is A p s entries x q m e f = rw e (rw f refl)
 landed_is B p s entries x q m e f = rw e (rw f refl)
 landed_is C p s entries x q m e f = rw e (rw f refl)
+
+-- the record of a peer
+abbrev peer_words : Peer → List ℕ
+peer_words w = peer_text w.kind w.standing w.tables
 
 -- the records of last pushed ids that are put
 abbrev last_put : ℕ → LastId → Put
@@ -174,7 +185,8 @@ pub record IsLanded (s : Sent) (core : ClusterCore) (q : QueueRecord) (place : P
   pub recorded : Recorded c core.queues → Recorded c' next
 
 -- a flight that may be recorded
-module _ (k : ℕ) (m : Machine) (c : Contents) (core : ClusterCore) (f : Flight) (q : QueueRecord) (there : flight_of k m ≡ Some f) (st : Stands f.cluster c core (of f.cluster m)) (may : MayConfirm core k m f q) where
+module _ (k : ℕ) (m : Machine) (c : Contents) (core : ClusterCore) (f : Flight) (q : QueueRecord)
+    (there : flight_of k m ≡ Some f) (st : Stands f.cluster c core (of f.cluster m)) (may : MayConfirm core k m f q) where
   abbrev own : Cluster
   own = f.cluster
 
@@ -220,13 +232,13 @@ module _ (k : ℕ) (m : Machine) (c : Contents) (core : ClusterCore) (f : Flight
   queues = replace (is_queue q.peer q.server) (record (as_queue q) { flight = None }) (of own m).queues
 
   abbrev side : Side
-  side = requeued peers queues (of own m).forms (of own m)
+  side = side_after x f.entries (as_queue q) (of own m)
 
   left_is : landed f (recorded own f.peer f.entries m) ≡ with own side m
   left_is = landed_is own f.peer f.server f.entries x (as_queue q) m known queue_there
 
-  same_peers : (i : ℕ) → option_map (λ (w : Peer). peer_text w.kind w.standing w.tables) (find (is_peer i) peers) ≡ option_map (λ (w : Peer). peer_text w.kind w.standing w.tables) (find (is_peer i) (of own m).peers)
-  same_peers i = found_same (λ (w : Peer). peer_text w.kind w.standing w.tables) (is_peer i) (is_peer x.number) (noted x f.entries) x (of own m).peers (found_again f.peer (of own m).peers x known) refl refl
+  same_peers : (i : ℕ) → option_map peer_words (find (is_peer i) peers) ≡ option_map peer_words (find (is_peer i) (of own m).peers)
+  same_peers i = found_same peer_words (is_peer i) (is_peer x.number) (noted x f.entries) x (of own m).peers (found_again f.peer (of own m).peers x known) refl refl
 
   -- the records of the queue and of the last pushed ids are put
   records_landed : (c' : Contents) (place : Place) (at : ℕ) (ids : List LastId) → c' ≡ with_records (queue_change (placed place at q) ∷ map (last_change f.peer) ids) c → RecordsStand c' side
@@ -239,7 +251,8 @@ module _ (k : ℕ) (m : Machine) (c : Contents) (core : ClusterCore) (f : Flight
       st.records (record { small = tt; owed = tt }, lasts_due side f.peer ids)
       (λ key small aside o. owes_requeued (of own m) peers queues (of own m).forms key (λ i e. same_peers i) o)
 
-  module _ {way : Route} (reached : Reached way m) (pair : is_in way own ≡ true) (c' : Contents) (next : Storage) (place : Place) (at : ℕ) (ids : List LastId) (l : IsLanded (sent_of way f) core q place at ids c c' next) where
+  module _ {way : Route} (reached : Reached way m) (pair : is_in way own ≡ true) (c' : Contents) (next : Storage) (place : Place) (at : ℕ) (ids : List LastId)
+      (l : IsLanded (sent_of way f) core q place at ids c c' next) where
     at_is : at ≡ q.at + length f.entries
     at_is = l.at_is ∙ head_is own c core m pair reached st f x q flying known may.found out
 
@@ -267,17 +280,21 @@ module _ (k : ℕ) (m : Machine) (c : Contents) (core : ClusterCore) (f : Flight
         stands_requeued own c c' core (of own m) core.peers next peers queues (of own m).forms st files folder stand (l.recorded st.recorded) (records_landed c' place at ids is)
 
 -- what is answered
-module _ {way : Route} (k : ℕ) (m : Machine) (c c' : Contents) (core : ClusterCore) (next : Storage) (fs : List Sent) (f : Flight) (q : QueueRecord) (flights : fs ≡ map (sent_of way) m.flights)
-    (there : flight_of k m ≡ Some f) (st : Stands f.cluster c core (of f.cluster m)) (may : MayConfirm core k m f q) where
+abbrev confirm_row : Route → ℕ → Reply → Machine → Row
+confirm_row way k said m = row way (event.Confirm k) said m
+
+module _ {way : Route} (k : ℕ) (m : Machine) (c c' : Contents) (core : ClusterCore) (next : Storage) (fs : List Sent) (f : Flight) (q : QueueRecord)
+    (flights : fs ≡ map (sent_of way) m.flights) (there : flight_of k m ≡ Some f) (st : Stands f.cluster c core (of f.cluster m)) (may : MayConfirm core k m f q) where
   faulted_flies : (count : ℕ) → next ≡ core.queues → c' ≡ c
-      → Flies way f.cluster (row way (event.Confirm k) (reply.StoreFault f.cluster call.Put count) m) m c' (record core { queues = next }) fs (reply.StoreFault f.cluster call.Put count)
+      → Flies way f.cluster (confirm_row way k (reply.StoreFault f.cluster call.Put count) m) m c' (record core { queues = next }) fs (reply.StoreFault f.cluster call.Put count)
   faulted_flies count same contents =
       flies_as f.cluster _ m m c' (record core { queues = next }) fs (reply.StoreFault f.cluster call.Put count) (faulted_is k m c core f q there st may count)
-      (subst (λ (w : Storage). Stands f.cluster c' (record core { queues = w }) (of f.cluster m)) (sym same) (subst (λ (d : Contents). Stands f.cluster d core (of f.cluster m)) (sym contents) st))
+      (subst (λ (w : Storage). Stands f.cluster c' (record core { queues = w }) (of f.cluster m)) (sym same)
+      (subst (λ (d : Contents). Stands f.cluster d core (of f.cluster m)) (sym contents) st))
       (λ d apart. refl) flights
 
   recorded_flies : Reached way m → is_in way f.cluster ≡ true → (place : Place) (at : ℕ) (ids : List LastId) → IsLanded (sent_of way f) core q place at ids c c' next
-      → Flies way f.cluster (row way (event.Confirm k) (reply.Recorded (length f.entries)) m) m c' (record core { queues = next }) fs (reply.Recorded (length f.entries))
+      → Flies way f.cluster (confirm_row way k (reply.Recorded (length f.entries)) m) m c' (record core { queues = next }) fs (reply.Recorded (length f.entries))
   recorded_flies reached pair place at ids l =
       let left : Side = side k m c core f q there st may in
       flies_as f.cluster _ m (with f.cluster left m) c' (record core { queues = next }) fs (reply.Recorded (length f.entries))
@@ -287,19 +304,21 @@ module _ {way : Route} (k : ℕ) (m : Machine) (c c' : Contents) (core : Cluster
 
 -- ---- the same, as memory tells it
 
-module _ {way : Route} (own : Cluster) (k : ℕ) (m : Machine) (c c' : Contents) (core : ClusterCore) (next : Storage) (fs : List Sent) (s : Sent) (q : QueueRecord) (flights : fs ≡ map (sent_of way) m.flights)
-    (h : HasFlight way own c core m k s) (may : MayConfirm core k m h.flight q) where
-  pub faulted_answer : (count : ℕ) → next ≡ core.queues → c' ≡ c → Flies way own (row way (event.Confirm k) (reply.StoreFault own call.Put count) m) m c' (record core { queues = next }) fs (reply.StoreFault own call.Put count)
+module _ {way : Route} (own : Cluster) (k : ℕ) (m : Machine) (c c' : Contents) (core : ClusterCore) (next : Storage) (fs : List Sent) (s : Sent) (q : QueueRecord)
+    (flights : fs ≡ map (sent_of way) m.flights) (h : HasFlight way own c core m k s) (may : MayConfirm core k m h.flight q) where
+  pub faulted_answer : (count : ℕ) → next ≡ core.queues → c' ≡ c
+      → Flies way own (confirm_row way k (reply.StoreFault own call.Put count) m) m c' (record core { queues = next }) fs (reply.StoreFault own call.Put count)
   faulted_answer count queues contents =
-      subst (λ (w : Cluster). Flies way w (row way (event.Confirm k) (reply.StoreFault w call.Put count) m) m c' (record core { queues = next }) fs (reply.StoreFault w call.Put count)) h.from
+      subst (λ (w : Cluster). Flies way w (confirm_row way k (reply.StoreFault w call.Put count) m) m c' (record core { queues = next }) fs (reply.StoreFault w call.Put count)) h.from
       (faulted_flies k m c c' core next fs h.flight q flights h.there h.stands may count queues contents)
 
   pub recorded_answer : Reached way m → is_in way own ≡ true → (place : Place) (at : ℕ) (ids : List LastId) → IsLanded s core q place at ids c c' next
-      → Flies way own (row way (event.Confirm k) (reply.Recorded s.entries) m) m c' (record core { queues = next }) fs (reply.Recorded s.entries)
+      → Flies way own (confirm_row way k (reply.Recorded s.entries) m) m c' (record core { queues = next }) fs (reply.Recorded s.entries)
   recorded_answer reached pair place at ids l =
+      let n : ℕ = length h.flight.entries in
       let inside : is_in way h.flight.cluster ≡ true = subst (λ (w : Cluster). is_in way w ≡ true) (sym h.from) pair in
       let its : IsLanded (sent_of way h.flight) core q place at ids c c' next = subst (λ (w : Sent). IsLanded w core q place at ids c c' next) h.is l in
-      let flies : Flies way h.flight.cluster (row way (event.Confirm k) (reply.Recorded (length h.flight.entries)) m) m c' (record core { queues = next }) fs (reply.Recorded (length h.flight.entries)) =
+      let flies : Flies way h.flight.cluster (confirm_row way k (reply.Recorded n) m) m c' (record core { queues = next }) fs (reply.Recorded n) =
       recorded_flies k m c c' core next fs h.flight q flights h.there h.stands may reached inside place at ids its in
-      subst (λ (w : Sent). Flies way own (row way (event.Confirm k) (reply.Recorded w.entries) m) m c' (record core { queues = next }) fs (reply.Recorded w.entries)) (sym h.is)
-      (subst (λ (w : Cluster). Flies way w (row way (event.Confirm k) (reply.Recorded (length h.flight.entries)) m) m c' (record core { queues = next }) fs (reply.Recorded (length h.flight.entries))) h.from flies)
+      subst (λ (w : Sent). Flies way own (confirm_row way k (reply.Recorded w.entries) m) m c' (record core { queues = next }) fs (reply.Recorded w.entries)) (sym h.is)
+      (subst (λ (w : Cluster). Flies way w (confirm_row way k (reply.Recorded n) m) m c' (record core { queues = next }) fs (reply.Recorded n)) h.from flies)

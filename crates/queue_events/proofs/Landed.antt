@@ -64,8 +64,9 @@ behind_none place = refl
 
 -- ---- the flight's commits
 
-module _ {way : Route} (own : Cluster) (c : Contents) (core : ClusterCore) (m : Machine) (pair : is_in way own ≡ true) (reached : Reached way m) (k : Stands own c core (of own m)) (f : Flight) (x : Peer) (q : QueueRecord)
-    (flying : find (is_flight f.number) m.flights ≡ Some f) (known : find (is_peer f.peer) (of own m).peers ≡ Some x) (found : queue_at f.peer f.server core.queues.queues ≡ Some q) (out : q.flight ≡ Some f.number) where
+module _ {way : Route} (own : Cluster) (c : Contents) (core : ClusterCore) (m : Machine) (pair : is_in way own ≡ true) (reached : Reached way m) (k : Stands own c core (of own m))
+    (f : Flight) (x : Peer) (q : QueueRecord) (flying : find (is_flight f.number) m.flights ≡ Some f) (known : find (is_peer f.peer) (of own m).peers ≡ Some x)
+    (found : queue_at f.peer f.server core.queues.queues ≡ Some q) (out : q.flight ≡ Some f.number) where
   abbrev kept : List Kept
   kept = shelf_kept f.server core.index.shelves
 
@@ -150,7 +151,8 @@ module _ {way : Route} (own : Cluster) (c : Contents) (core : ClusterCore) (m : 
     end_is : end_frame (kept_of front y) ≡ end_place f.server front y
     end_is =
         let e = frame_end own m pair reached f.server its_place.server server_there number front rest y all in
-        ap (λ n. let p : Place = record { log = y.log; offset = n } in p) (ap (λ n. min n 18446744073709551615) (sym e) ∙ small _ (end_fits own m pair reached f.server its_place.server server_there number front rest y all))
+        let fits = end_fits own m pair reached f.server its_place.server server_there number front rest y all in
+        ap (λ n. let p : Place = record { log = y.log; offset = n } in p) (ap (λ n. min n 18446744073709551615) (sym e) ∙ small _ fits)
       where
         small : (n : ℕ) → n ≤ 65536 → min n 18446744073709551615 ≡ n
         small n h = omega arith

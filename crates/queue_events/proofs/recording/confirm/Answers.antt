@@ -35,7 +35,8 @@ returns-in-Ok-record_place-clause-does g c = λ way m reached inside stands flig
     let h = has_flight core.own old core m c.args.flights.now c.args.flight sent reached stands flights from (sym c.find_sent.ensures ∙ ap option_copied c.in-Some.is) in
     let may = c.in-Ok.ensures.state way old m h.flight stands h.there h.from h.is in
     let shelf : c.shelf_kept-kept.result.now ≡ shelf_kept sent.server core.index.shelves = c.shelf_kept-kept.ensures in
-    let landed : c.flight_kept-landed.result.now ≡ flight_kept q.at sent.entries (shelf_kept sent.server core.index.shelves) = c.flight_kept-landed.ensures ∙ ap (flight_kept q.at sent.entries) shelf in
+    let landed : c.flight_kept-landed.result.now ≡ flight_kept q.at sent.entries (shelf_kept sent.server core.index.shelves) =
+    c.flight_kept-landed.ensures ∙ ap (flight_kept q.at sent.entries) shelf in
     let done = c.in-Ok-record_place.ensures in
     recorded_answer core.own c.args.flight m old (g.V.Vault.contents c.record_place.new.vault) core c.record_place.new.self c.args.flights.now sent q flights h may reached inside
     c.place_behind-place.result c.head_behind-at.result c.as_slice.result.now (record {
