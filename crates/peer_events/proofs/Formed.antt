@@ -48,13 +48,14 @@ use Rattle.peer_events.specs.Migrating.{Follows, forms_put}
 -- ---- one put
 
 -- an event whose plan comes to this one
-pub follows : (way : Route) (own : Cluster) (e : Event) (p : Plan) (m : Machine) (old : Contents) (core : ClusterCore) (new : Contents) (core' : ClusterCore) (result : Result Reply CoreError)
-    → ((said : Reply) → row way e said m ≡ told p said m) → Follows own p m old core new core' result → Answers way own e m old core new core' result
+pub follows : (way : Route) (own : Cluster) (e : Event) (p : Plan) (m : Machine) (old : Contents) (core : ClusterCore) (new : Contents) (core' : ClusterCore)
+    (result : Result Reply CoreError) → ((said : Reply) → row way e said m ≡ told p said m) → Follows own p m old core new core' result → Answers way own e m old core new core' result
 follows way own e p m old core new core' (Ok said) same h = subst (λ (r : Row). Does own r m new core' said) (sym (same said)) h
 follows way own e p m old core new core' (Err (failed.Memory changed)) same h = h
 
 -- a failed put leaves all as it was
-pub put_failed : (own : Cluster) (c c' : Contents) (core : ClusterCore) (m : Machine) (next : Storage) (rest : Plan) (count : ℕ) → Stands own c core (of own m) → next ≡ core.queues → c' ≡ c
+pub put_failed : (own : Cluster) (c c' : Contents) (core : ClusterCore) (m : Machine) (next : Storage) (rest : Plan) (count : ℕ)
+    → Stands own c core (of own m) → next ≡ core.queues → c' ≡ c
     → Does own (told (Asks (site own call.Put ∷ []) m rest) (reply.StoreFault own call.Put count) m) m c' (record core { queues = next }) (reply.StoreFault own call.Put count)
 put_failed own c c' core m next rest count k queues contents =
     does_nothing own (told (Asks (site own call.Put ∷ []) m rest) (reply.StoreFault own call.Put count) m) m c' (record core { queues = next }) (reply.StoreFault own call.Put count)
@@ -90,17 +91,19 @@ module _ (own : Cluster) (c : Contents) (core : ClusterCore) (m : Machine) (k : 
       (record { small = tt; owed = tt }, tt)
       (λ key small aside o. owes_requeued (of own m) (of own m).peers (of own m).queues f key (λ i e. refl) o)
 
-  pub forms_done : (c' : Contents) (next : Storage) → next.queues ≡ core.queues.queues → next.ids ≡ core.queues.ids → next.forms ≡ f → c' ≡ with_records (forms_change f ∷ []) c
-      → (Recorded c core.queues → Recorded c' next) → Does own (told (forms_put own f m) reply.Done m) m c' (record core { queues = next }) reply.Done
+  pub forms_done : (c' : Contents) (next : Storage) → next.queues ≡ core.queues.queues → next.ids ≡ core.queues.ids → next.forms ≡ f
+      → c' ≡ with_records (forms_change f ∷ []) c → (Recorded c core.queues → Recorded c' next) → Does own (told (forms_put own f m) reply.Done m) m c' (record core { queues = next }) reply.Done
   forms_done c' next queues ids forms put recorded =
       let files : c'.files ≡ c.files = ap (λ (d : Contents). d.files) put ∙ files_records (forms_change f ∷ []) c in
       let folder : c'.stands wal ≡ c.stands wal = ap (λ (d : Contents). d.stands wal) put ∙ ap (λ (g : List ℕ → Bool). g wal) (stands_records (forms_change f ∷ []) c) in
       does_with own (told (forms_put own f m) reply.Done m) m side c' (record core { queues = next }) reply.Done refl
-      (stands_requeued own c c' core (of own m) core.peers next (of own m).peers (of own m).queues f k files folder (queues_stand next queues ids forms) (recorded k.recorded) (records_stand c' put))
+      (stands_requeued own c c' core (of own m) core.peers next (of own m).peers (of own m).queues f k files folder
+      (queues_stand next queues ids forms) (recorded k.recorded) (records_stand c' put))
 
 -- ---- whether there is a server
 
-pub servers_are : (c : Contents) (other : Side) (stations : List Station) (servers : List Server) → ((s : ℕ) → StationAt c other s (find (is_station s) stations) (find (is_server s) servers)) → not (length stations == 0) ≡ has_server servers
+pub servers_are : (c : Contents) (other : Side) (stations : List Station) (servers : List Server)
+    → ((s : ℕ) → StationAt c other s (find (is_station s) stations) (find (is_server s) servers)) → not (length stations == 0) ≡ has_server servers
 servers_are c other [] [] h = refl
 servers_are c other (st ∷ sts) (v ∷ vs) h = ap not (eqb-suc-zero (length sts))
 servers_are c other [] (v ∷ vs) h =

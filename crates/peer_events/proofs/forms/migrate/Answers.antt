@@ -29,7 +29,8 @@ returns-in-Ok-migrate-clause-does g c = λ way m reached inside stands.
     follows way core.own (event.Migrate core.own c.args.peer c.args.server) (grouped_put core.own (as_queue may.queued) m) m old core
     (g.V.Vault.contents c.migrate.new.vault) (record core { queues = c.migrate.new.self }) (Ok reply.Done)
     (passed core.own old core m stands c.args.peer c.args.server may)
-    (migrate_done core.own old core m stands c.args.peer c.args.server may (g.V.Vault.contents c.migrate.new.vault) c.migrate.new.self done.queues done.ids done.forms done.records done.recorded)
+    (migrate_done core.own old core m stands c.args.peer c.args.server may (g.V.Vault.contents c.migrate.new.vault) c.migrate.new.self
+    done.queues done.ids done.forms done.records done.recorded)
 
 pub returns-in-Err-StoreFault-clause-does : goal.returns-in-Err-StoreFault-clause-does
 returns-in-Err-StoreFault-clause-does g c = λ way m reached inside stands.
@@ -40,4 +41,5 @@ returns-in-Err-StoreFault-clause-does g c = λ way m reached inside stands.
     follows way core.own (event.Migrate core.own c.args.peer c.args.server) (grouped_put core.own (as_queue may.queued) m) m old core
     (g.V.Vault.contents c.migrate.new.vault) (record core { queues = c.migrate.new.self }) (Ok (reply.StoreFault core.own call.Put c.in-Err-StoreFault.count))
     (passed core.own old core m stands c.args.peer c.args.server may)
-    (put_failed core.own old (g.V.Vault.contents c.migrate.new.vault) core m c.migrate.new.self (Ends reply.Done (with_queue_form core.own form.Grouped (as_queue may.queued) m)) c.in-Err-StoreFault.count stands failed.err failed.stays)
+    (put_failed core.own old (g.V.Vault.contents c.migrate.new.vault) core m c.migrate.new.self
+    (Ends reply.Done (with_queue_form core.own form.Grouped (as_queue may.queued) m)) c.in-Err-StoreFault.count stands failed.err failed.stays)

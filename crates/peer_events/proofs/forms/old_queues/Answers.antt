@@ -21,7 +21,9 @@ returns-then-has_server-clause-does g c = λ way m reached inside stands.
       | then-has_server-via-then-has_server w ↦ plan_refused core.own (old_queues_plan core.own m) m old core refusal.Exists (served core.own m (said ∙ w.if-has_server.true)) stands
       | then-has_server-via-else-has_server+then-not-is_new w ↦
           plan_refused core.own (old_queues_plan core.own m) m old core refusal.Exists
-          (not_new core.own m (said ∙ w.if-has_server.false) (of_forms is_new w.is_new.result false w.forms.result core.queues.forms (of core.own m).forms w.is_new.ensures w.forms.ensures stands.queues.forms w.if-not-is_new.true)) stands
+          (not_new core.own m (said ∙ w.if-has_server.false)
+          (of_forms is_new w.is_new.result false w.forms.result core.queues.forms (of core.own m).forms w.is_new.ensures w.forms.ensures stands.queues.forms
+          w.if-not-is_new.true)) stands
     ]
 
 pub returns-clause-does : goal.returns-clause-does
