@@ -1,5 +1,5 @@
 -- The end of a commit's frame as a place that divides its server's commits.
-use Rattle.std.proofs.Common.{ℕ, ◌+◌, ◌<◌, ◌≤◌, ◌≡◌, ◌==◌, ◌⊎◌, inl, inr, Bool, true, false, List, [], ◌∷◌, ◌++◌, find, filter, take, drop, length, Some, refl, ap, sym, ◌∙◌, subst, arith, eqb-true, append_assoc, append-nil, length-append}
+use Rattle.std.proofs.Common.{ℕ, ◌+◌, ◌<◌, ◌≤◌, ◌≡◌, ◌==◌, ◌⊎◌, inl, inr, Bool, true, List, [], ◌∷◌, ◌++◌, find, filter, take, drop, length, Some, refl, ap, sym, ◌∙◌, subst, arith, eqb-true, append_assoc, length-append}
 use Rattle.std.specs.List.{AllByRecursion}
 use Rattle.std.proofs.lemmas.Bool.{cond_both, cases_eq}
 use Rattle.std.proofs.lemmas.List.{take_all, drop_all}
@@ -14,14 +14,13 @@ use Rattle.rep_model.specs.Runs.{state_on}
 use Rattle.rep_model.specs.declared.machine.Machine.{Machine}
 use Rattle.rep_model.specs.declared.machine.Commit.{Commit}
 use Rattle.rep_model.specs.declared.machine.Server.{Server}
-use Rattle.rep_laws.proofs.Lists.{All_both, All_weaker, All_append, All_filtered, All_passing, All_middle}
+use Rattle.rep_laws.proofs.Lists.{All_both, All_weaker, All_append, All_filtered, All_middle}
 use Rattle.rep_laws.proofs.LogsPart.{InLog, LogsRise, LogIn, logged_at}
 use Rattle.rep_laws.proofs.Steady.{steady_run}
-use Rattle.cluster_core.specs.declared.parts.Kept.{Kept}
 use Rattle.cluster_core.specs.Does.{Reached}
 use Rattle.cluster_core.specs.Entries.{server_commits}
 use Rattle.cluster_core.specs.Memory.{kept_of, kept_after}
-use Rattle.cluster_core.specs.QueuePlaces.{kept_by, EndsBy, BeginsFrom, Divides, end_of, IsWithin, IsPlace}
+use Rattle.cluster_core.specs.QueuePlaces.{kept_by, EndsBy, BeginsFrom, Divides, end_of, IsPlace}
 use Rattle.cluster_core.proofs.Divided.{IsEarlier, IsLater, begin_behind, end_before, end_grows, end_of_server, end_pushed}
 use Rattle.cluster_core.proofs.QueueLookups.{kept_length}
 use Rattle.cluster_core.proofs.Shelving.{kept_append}

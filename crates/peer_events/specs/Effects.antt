@@ -1,5 +1,5 @@
 -- What events of peers leave of memory.
-use Rattle.std.specs.Prelude.{ℕ, ◌-◌, ◌||◌, not, List, [], ◌∷◌, ◌++◌, length, find, slice_get, Option, Some, None, if◌then◌else◌}
+use Rattle.std.specs.Prelude.{ℕ, ◌-◌, ◌≡◌, ◌||◌, MatchOption, not, List, [], ◌∷◌, ◌++◌, length, find, slice_get, Option, Some, None, if◌then◌else◌}
 use Rattle.rep_types.specs.declared.state.Kind.TheVariants as kind
 use Rattle.rep_types.specs.declared.state.Place.{Place}
 use Rattle.rep_types.specs.declared.state.QueueForms.{QueueForms}
@@ -7,13 +7,15 @@ use Rattle.last_ids.specs.declared.ids.LastId.{LastId}
 use Rattle.queue_storage.specs.declared.record.QueueRecord.{QueueRecord}
 use Rattle.queue_storage.specs.Queues.{new_queue}
 use Rattle.region_meta.specs.declared.region.Region.{Region}
-use Rattle.rep_model.specs.Keyed.{given}
+use Rattle.rep_model.specs.Keyed.{given, replace}
+use Rattle.rep_model.specs.declared.machine.Standing.{Standing}
 use Rattle.rep_model.specs.declared.machine.Standing.TheVariants as standing
 use Rattle.cluster_core.specs.declared.parts.ClusterCore.{ClusterCore}
 use Rattle.cluster_core.specs.declared.parts.PeerLine.{PeerLine}
 use Rattle.cluster_core.specs.declared.parts.Shelf.{Shelf}
 use Rattle.cluster_core.specs.declared.parts.Station.{Station}
 use Rattle.cluster_core.specs.declared.parts.Trace.{Trace}
+use Rattle.cluster_core.specs.Lookups.{is_peer_line}
 use Rattle.cluster_core.specs.Stands.{is_station}
 
 -- ---- a new peer
@@ -50,3 +52,12 @@ new_peer_line p tables = record { number = p; kind = kind.Plain; tables = tables
 -- the peer stands behind the others
 abbrev pub with_new_peer : ℕ → List (List ℕ) → ClusterCore → ClusterCore
 with_new_peer p tables core = record core { peers = core.peers ++ new_peer_line p tables ∷ [] }
+
+-- ---- a peer's standing
+
+abbrev pub stands : Standing → PeerLine → PeerLine
+stands standing x = record x { standing = standing }
+
+-- the peer has this standing, and the others are as they were
+abbrev pub HasStanding : ℕ → Standing → List PeerLine → List PeerLine → Type 0
+HasStanding p standing old new = MatchOption (find (is_peer_line p) old) (new ≡ old) (λ (x : PeerLine). new ≡ replace (is_peer_line p) (stands standing x) old)

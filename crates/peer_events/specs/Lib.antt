@@ -1,3 +1,4 @@
 pub mod Effects
 pub mod Migrating
+pub mod Standings
 pub mod Tables

@@ -72,7 +72,13 @@ pub fn peer<V: Vault>(
         Some(why) => return Ok(Reply::Refused(why)),
         None => {}
     }
-    let Ok(changes) = peer_record(alloc, peer, PeerStanding::Enabled, tables.as_slice()) else {
+    let Ok(changes) = peer_record(
+        alloc,
+        peer,
+        Kind::Plain,
+        PeerStanding::Enabled,
+        tables.as_slice(),
+    ) else {
         return Err(CoreError::Memory { changed: false });
     };
     let Ok(queues) = new_queues(
