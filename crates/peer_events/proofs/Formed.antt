@@ -1,10 +1,9 @@
 -- The forms of a cluster's queue records are others: that this is what the rows of forms tell, and what stands then.
-use Rattle.std.proofs.Common.{ℕ, ◌≡◌, ◌==◌, true, false, not, length, Bool, List, [], ◌∷◌, map, find, Option, Some, None, Result, Ok, Err, option_map, refl, ap, sym, ◌∙◌, subst, eq-eqb}
+use Rattle.std.proofs.Common.{ℕ, ◌≡◌, ◌==◌, true, false, not, length, Bool, List, [], ◌∷◌, map, find, Option, Some, None, option_map, refl, ap, sym, ◌∙◌, subst, eq-eqb}
 use Rattle.std.specs.List.{AllByRecursion}
 use Rattle.std.proofs.lemmas.Bool.{cond-true}
 use Rattle.std.proofs.Math.Dec.{eqb-suc-zero}
 use Rattle.rep_types.specs.declared.ids.Cluster.{Cluster}
-use Rattle.rep_types.specs.declared.event.Event.{Event}
 use Rattle.rep_types.specs.declared.refusal.Refusal.TheVariants as refusal
 use Rattle.rep_types.specs.declared.reply.Reply.{Reply}
 use Rattle.rep_types.specs.declared.reply.Reply.TheVariants as reply
@@ -22,36 +21,26 @@ use Rattle.queue_storage.specs.Texts.{forms_text, forms_change}
 use Rattle.rep_model.specs.FormEvents.{is_old, is_mixed, is_new, has_server, first_listed, old_queues_plan, migrate_begin_plan, migrate_end_plan}
 use Rattle.rep_model.specs.Path.{refusal_of}
 use Rattle.rep_model.specs.Plan.{Plan, Asks, told}
-use Rattle.rep_model.specs.Row.{Row, or_fault, site}
-use Rattle.rep_model.specs.Rows.{row}
-use Rattle.rep_model.specs.State.{Route, of, is_server}
-use Rattle.rep_model.specs.declared.faults.Site.{Site}
+use Rattle.rep_model.specs.Row.{site}
+use Rattle.rep_model.specs.State.{of, is_server}
 use Rattle.rep_model.specs.declared.machine.Machine.{Machine}
 use Rattle.rep_model.specs.declared.machine.Queue.{Queue}
 use Rattle.rep_model.specs.declared.machine.Server.{Server}
 use Rattle.rep_model.specs.declared.machine.Side.{Side}
 use Rattle.cluster_core.specs.declared.parts.ClusterCore.{ClusterCore}
-use Rattle.cluster_core.specs.declared.parts.CoreError.{CoreError}
-use Rattle.cluster_core.specs.declared.parts.CoreError.TheVariants as failed
 use Rattle.cluster_core.specs.declared.parts.Station.{Station}
-use Rattle.cluster_core.specs.Does.{Does, Answers}
+use Rattle.cluster_core.specs.Does.{Does}
 use Rattle.cluster_core.specs.Queues.{queue_of, IsAt, QueuesStand}
 use Rattle.cluster_core.specs.Stands.{StationAt, is_station, RecordsStand, Stands}
 use Rattle.cluster_core.specs.Texts.{OfForms}
-use Rattle.cluster_core.proofs.Answering.{faulted_one}
+use Rattle.cluster_core.proofs.Asking.{failed_one}
 use Rattle.cluster_core.proofs.RecordsPut.{Put, records_put}
 use Rattle.cluster_core.proofs.Requeued.{requeued, owes_requeued, stands_requeued}
 use Rattle.cluster_core.proofs.Simple.{does_with, does_nothing}
 use Rattle.cluster_core.proofs.Staying.{is_same_peer, is_same_server, queues_kept}
-use Rattle.peer_events.specs.Migrating.{Follows, forms_put}
+use Rattle.peer_events.specs.Migrating.{forms_put}
 
 -- ---- one put
-
--- an event whose plan comes to this one
-pub follows : (way : Route) (own : Cluster) (e : Event) (p : Plan) (m : Machine) (old : Contents) (core : ClusterCore) (new : Contents) (core' : ClusterCore)
-    (result : Result Reply CoreError) → ((said : Reply) → row way e said m ≡ told p said m) → Follows own p m old core new core' result → Answers way own e m old core new core' result
-follows way own e p m old core new core' (Ok said) same h = subst (λ (r : Row). Does own r m new core' said) (sym (same said)) h
-follows way own e p m old core new core' (Err (failed.Memory changed)) same h = h
 
 -- a failed put leaves all as it was
 pub put_failed : (own : Cluster) (c c' : Contents) (core : ClusterCore) (m : Machine) (next : Storage) (rest : Plan) (count : ℕ)
@@ -59,7 +48,7 @@ pub put_failed : (own : Cluster) (c c' : Contents) (core : ClusterCore) (m : Mac
     → Does own (told (Asks (site own call.Put ∷ []) m rest) (reply.StoreFault own call.Put count) m) m c' (record core { queues = next }) (reply.StoreFault own call.Put count)
 put_failed own c c' core m next rest count k queues contents =
     does_nothing own (told (Asks (site own call.Put ∷ []) m rest) (reply.StoreFault own call.Put count) m) m c' (record core { queues = next }) (reply.StoreFault own call.Put count)
-    (ap (λ (o : Option Site). or_fault o (reply.StoreFault own call.Put count) (λ _. m) (told rest (reply.StoreFault own call.Put count) m)) (faulted_one own call.Put count))
+    (failed_one own call.Put count m rest m)
     (subst (λ (x : Storage). Stands own c' (record core { queues = x }) (of own m)) (sym queues) (subst (λ (d : Contents). Stands own d core (of own m)) (sym contents) k))
 
 -- ---- other forms

@@ -1,23 +1,19 @@
 -- A peer has another standing: its record and its line in memory.
-use Rattle.std.proofs.Common.{decimal, ℕ, inl, inr, ◌<◌, ◌^◌, ◌≡◌, ◌==◌, Bool, true, false, List, [], ◌∷◌, map, find, Option, Some, None, option_map, refl, ap, sym, ◌∙◌, subst, eqb-true, ne_eqb}
+use Rattle.std.proofs.Common.{ℕ, inl, inr, ◌<◌, ◌^◌, ◌≡◌, Bool, true, false, List, ◌∷◌, map, find, Option, Some, None, option_map, refl, ap, sym, ◌∙◌, subst, eqb-true, ne_eqb}
 use Rattle.std.specs.List.{AllByRecursion}
 use Rattle.std.specs.Prelude.{MatchOption}
-use Rattle.std.proofs.lemmas.Bool.{cond_both, cond-true, cond-false, cases_eq}
+use Rattle.std.proofs.lemmas.Bool.{cond_both, cases_eq}
 use Rattle.std.proofs.lemmas.Option.{none-some, same_Some}
 use Rattle.rep_types.specs.declared.ids.Cluster.{Cluster}
 use Rattle.rep_types.specs.declared.state.Kind.TheVariants as kind
-use Rattle.rep_types.specs.declared.state.QueueForms.{QueueForms}
-use Rattle.rep_vault.specs.declared.store.Change.{Change}
 use Rattle.rep_vault.specs.Contents.{Contents, with_records}
 use Rattle.rep_vault.proofs.Frames.{files_records, stands_records, records_records}
 use Rattle.wal_roll.specs.Log.{wal}
-use Rattle.queue_storage.specs.declared.record.QueueRecord.{QueueRecord}
 use Rattle.queue_storage.specs.Ids.{last_pushed}
 use Rattle.queue_storage.specs.Queues.{Storage}
 use Rattle.queue_storage.specs.Recorded.{Recorded}
 use Rattle.rep_model.specs.Keyed.{given, replace}
 use Rattle.rep_model.specs.State.{of, is_peer}
-use Rattle.rep_model.specs.Commits.{commit_count}
 use Rattle.rep_model.specs.Peers.{is_removed, peer_of}
 use Rattle.rep_model.specs.PeerEvents.{stands}
 use Rattle.rep_model.specs.declared.machine.Machine.{Machine}
@@ -33,8 +29,8 @@ use Rattle.cluster_core.specs.Texts.{RecordKey, OfPeer, peer_text}
 use Rattle.cluster_core.specs.Lines.{added}
 use Rattle.cluster_core.specs.Lookups.{is_peer_line}
 use Rattle.cluster_core.specs.Memory.{peer_line}
-use Rattle.cluster_core.specs.Queues.{queue_of, IsAt, pushed_by, pushed_at, QueuesStand}
-use Rattle.cluster_core.specs.Stands.{IsSmall, RecordsStand, Stands}
+use Rattle.cluster_core.specs.Queues.{queue_of, IsAt, pushed_by, pushed_at}
+use Rattle.cluster_core.specs.Stands.{IsSmall, Stands}
 use Rattle.cluster_core.proofs.Finds.{find_map}
 use Rattle.cluster_core.proofs.QueueLookups.{added_one, added_is}
 use Rattle.cluster_core.proofs.RecordsPut.{Owes, Put, IsAside, IsDue, change_of, records_put}

@@ -10,7 +10,8 @@ use Rattle.cluster_core.specs.declared.parts.ClusterCore.{ClusterCore}
 use Rattle.cluster_core.specs.Queues.{queue_of as as_queue}
 use Rattle.cluster_core.proofs.Answering.{plan_refused}
 use Rattle.peer_events.specs.Migrating.{grouped_put}
-use Rattle.peer_events.proofs.Formed.{follows, put_failed}
+use Rattle.peer_events.proofs.Followed.{follows}
+use Rattle.peer_events.proofs.Formed.{put_failed}
 use Rattle.peer_events.proofs.Migrated.{passed, migrate_done}
 use Rattle.peer_events.proofs.forms.migrate.Goals as goal
 

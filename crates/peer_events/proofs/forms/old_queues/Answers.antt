@@ -8,7 +8,8 @@ use Rattle.rep_model.specs.State.{of}
 use Rattle.cluster_core.specs.declared.parts.ClusterCore.{ClusterCore}
 use Rattle.cluster_core.proofs.Answering.{plan_refused}
 use Rattle.peer_events.specs.Migrating.{forms_put}
-use Rattle.peer_events.proofs.Formed.{follows, of_forms, served, not_new, is_fresh}
+use Rattle.peer_events.proofs.Followed.{follows}
+use Rattle.peer_events.proofs.Formed.{of_forms, served, not_new, is_fresh}
 use Rattle.peer_events.proofs.forms.old_queues.Goals.{then-has_server-via-then-has_server, then-has_server-via-else-has_server+then-not-is_new}
 use Rattle.peer_events.proofs.forms.old_queues.Goals as goal
 

@@ -1,5 +1,4 @@
 use Rattle.std.proofs.Common.{List, [], ◌∷◌, ap, sym, ◌∙◌}
-use Rattle.std.specs.Option.{option_copied}
 use Rattle.rep_vault.specs.declared.store.Change.{Change}
 use Rattle.rep_vault.specs.Contents.{with_records}
 use Rattle.cluster_core.specs.Changes.{setting}
