@@ -1,5 +1,5 @@
 -- A peer that isn't removed is enabled or disabled.
-use Rattle.std.proofs.Common.{decimal, ℕ, inl, inr, ◌<◌, ◌^◌, ◌≡◌, false, cond, max, List, [], ◌∷◌, find, take, Option, Some, None, Result, Ok, Err, refl, ap, sym, ◌∙◌, subst, eqb-true}
+use Rattle.std.proofs.Common.{decimal, ℕ, inl, inr, ◌<◌, ◌^◌, ◌≡◌, false, cond, max, List, [], ◌∷◌, find, take, Option, Some, None, Result, refl, ap, sym, ◌∙◌, subst, eqb-true}
 use Rattle.std.proofs.lemmas.Bool.{cases_eq}
 use Rattle.rep_types.specs.declared.ids.Cluster.{Cluster}
 use Rattle.rep_types.specs.declared.event.Event.TheVariants as event
@@ -27,7 +27,6 @@ use Rattle.rep_model.specs.declared.machine.Standing.TheVariants as standing
 use Rattle.rep_laws.proofs.Lists.{found_passes}
 use Rattle.cluster_core.specs.declared.parts.ClusterCore.{ClusterCore}
 use Rattle.cluster_core.specs.declared.parts.CoreError.{CoreError}
-use Rattle.cluster_core.specs.declared.parts.CoreError.TheVariants as failed
 use Rattle.cluster_core.specs.declared.parts.PeerLine.{PeerLine}
 use Rattle.cluster_core.specs.Changes.{setting}
 use Rattle.cluster_core.specs.Does.{Does, Answers}
@@ -40,7 +39,9 @@ use Rattle.cluster_core.proofs.Asking.{failed_one}
 use Rattle.cluster_core.proofs.RecordsAside.{recorded_aside}
 use Rattle.cluster_core.proofs.Simple.{does_with, does_nothing}
 use Rattle.peer_events.specs.Effects.{HasStanding}
-use Rattle.peer_events.specs.Standings.{standing_plan, Follows}
+use Rattle.peer_events.specs.Following.{Follows}
+use Rattle.peer_events.specs.Standings.{standing_plan}
+use Rattle.peer_events.proofs.Followed.{follows}
 use Rattle.peer_events.proofs.Restood.{IsAdded, not_added, is_added, queues_at, restood, pushed_other, pushed_new, pushed_old}
 
 module _ (own : Cluster) (c : Contents) (core : ClusterCore) (m : Machine) (k : Stands own c core (of own m)) (p : ℕ) (standing : Standing) where
@@ -105,10 +106,8 @@ module _ (own : Cluster) (c : Contents) (core : ClusterCore) (m : Machine) (k : 
 module _ (way : Route) (own : Cluster) (p : ℕ) (m : Machine) (old : Contents) (core : ClusterCore) (new : Contents) (core' : ClusterCore) where
   pub enabled : (r : Result Reply CoreError) → Follows own (standing_plan standing.Enabled own p m) m old core new core' r → Answers way own (event.Enable own p) m old core new core' r
   unfolding enable_plan
-  enabled (Ok said) k = k
-  enabled (Err (failed.Memory changed)) k = k
+  enabled r k = follows way own (event.Enable own p) (standing_plan standing.Enabled own p m) m old core new core' r (λ said. refl) k
 
   pub disabled : (r : Result Reply CoreError) → Follows own (standing_plan standing.Disabled own p m) m old core new core' r → Answers way own (event.Disable own p) m old core new core' r
   unfolding disable_plan
-  disabled (Ok said) k = k
-  disabled (Err (failed.Memory changed)) k = k
+  disabled r k = follows way own (event.Disable own p) (standing_plan standing.Disabled own p m) m old core new core' r (λ said. refl) k

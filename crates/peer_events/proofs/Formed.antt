@@ -1,10 +1,9 @@
 -- The forms of a cluster's queue records are others: that this is what the rows of forms tell, and what stands then.
-use Rattle.std.proofs.Common.{ℕ, ◌≡◌, ◌==◌, true, false, not, length, Bool, List, [], ◌∷◌, map, find, Option, Some, None, Result, Ok, Err, option_map, refl, ap, sym, ◌∙◌, subst, eq-eqb}
+use Rattle.std.proofs.Common.{ℕ, ◌≡◌, ◌==◌, true, false, not, length, Bool, List, [], ◌∷◌, map, find, Option, Some, None, option_map, refl, ap, sym, ◌∙◌, subst, eq-eqb}
 use Rattle.std.specs.List.{AllByRecursion}
 use Rattle.std.proofs.lemmas.Bool.{cond-true}
 use Rattle.std.proofs.Math.Dec.{eqb-suc-zero}
 use Rattle.rep_types.specs.declared.ids.Cluster.{Cluster}
-use Rattle.rep_types.specs.declared.event.Event.{Event}
 use Rattle.rep_types.specs.declared.refusal.Refusal.TheVariants as refusal
 use Rattle.rep_types.specs.declared.reply.Reply.{Reply}
 use Rattle.rep_types.specs.declared.reply.Reply.TheVariants as reply
@@ -22,43 +21,34 @@ use Rattle.queue_storage.specs.Texts.{forms_text, forms_change}
 use Rattle.rep_model.specs.FormEvents.{is_old, is_mixed, is_new, has_server, first_listed, old_queues_plan, migrate_begin_plan, migrate_end_plan}
 use Rattle.rep_model.specs.Path.{refusal_of}
 use Rattle.rep_model.specs.Plan.{Plan, Asks, told}
-use Rattle.rep_model.specs.Row.{Row, or_fault, site}
-use Rattle.rep_model.specs.Rows.{row}
-use Rattle.rep_model.specs.State.{Route, of, is_server}
-use Rattle.rep_model.specs.declared.faults.Site.{Site}
+use Rattle.rep_model.specs.Row.{site}
+use Rattle.rep_model.specs.State.{of, is_server}
 use Rattle.rep_model.specs.declared.machine.Machine.{Machine}
 use Rattle.rep_model.specs.declared.machine.Queue.{Queue}
 use Rattle.rep_model.specs.declared.machine.Server.{Server}
 use Rattle.rep_model.specs.declared.machine.Side.{Side}
 use Rattle.cluster_core.specs.declared.parts.ClusterCore.{ClusterCore}
-use Rattle.cluster_core.specs.declared.parts.CoreError.{CoreError}
-use Rattle.cluster_core.specs.declared.parts.CoreError.TheVariants as failed
 use Rattle.cluster_core.specs.declared.parts.Station.{Station}
-use Rattle.cluster_core.specs.Does.{Does, Answers}
+use Rattle.cluster_core.specs.Does.{Does}
 use Rattle.cluster_core.specs.Queues.{queue_of, IsAt, QueuesStand}
 use Rattle.cluster_core.specs.Stands.{StationAt, is_station, RecordsStand, Stands}
 use Rattle.cluster_core.specs.Texts.{OfForms}
-use Rattle.cluster_core.proofs.Answering.{faulted_one}
+use Rattle.cluster_core.proofs.Asking.{failed_one}
 use Rattle.cluster_core.proofs.RecordsPut.{Put, records_put}
 use Rattle.cluster_core.proofs.Requeued.{requeued, owes_requeued, stands_requeued}
 use Rattle.cluster_core.proofs.Simple.{does_with, does_nothing}
 use Rattle.cluster_core.proofs.Staying.{is_same_peer, is_same_server, queues_kept}
-use Rattle.peer_events.specs.Migrating.{Follows, forms_put}
+use Rattle.peer_events.specs.Migrating.{forms_put}
 
 -- ---- one put
 
--- an event whose plan comes to this one
-pub follows : (way : Route) (own : Cluster) (e : Event) (p : Plan) (m : Machine) (old : Contents) (core : ClusterCore) (new : Contents) (core' : ClusterCore) (result : Result Reply CoreError)
-    → ((said : Reply) → row way e said m ≡ told p said m) → Follows own p m old core new core' result → Answers way own e m old core new core' result
-follows way own e p m old core new core' (Ok said) same h = subst (λ (r : Row). Does own r m new core' said) (sym (same said)) h
-follows way own e p m old core new core' (Err (failed.Memory changed)) same h = h
-
 -- a failed put leaves all as it was
-pub put_failed : (own : Cluster) (c c' : Contents) (core : ClusterCore) (m : Machine) (next : Storage) (rest : Plan) (count : ℕ) → Stands own c core (of own m) → next ≡ core.queues → c' ≡ c
+pub put_failed : (own : Cluster) (c c' : Contents) (core : ClusterCore) (m : Machine) (next : Storage) (rest : Plan) (count : ℕ)
+    → Stands own c core (of own m) → next ≡ core.queues → c' ≡ c
     → Does own (told (Asks (site own call.Put ∷ []) m rest) (reply.StoreFault own call.Put count) m) m c' (record core { queues = next }) (reply.StoreFault own call.Put count)
 put_failed own c c' core m next rest count k queues contents =
     does_nothing own (told (Asks (site own call.Put ∷ []) m rest) (reply.StoreFault own call.Put count) m) m c' (record core { queues = next }) (reply.StoreFault own call.Put count)
-    (ap (λ (o : Option Site). or_fault o (reply.StoreFault own call.Put count) (λ _. m) (told rest (reply.StoreFault own call.Put count) m)) (faulted_one own call.Put count))
+    (failed_one own call.Put count m rest m)
     (subst (λ (x : Storage). Stands own c' (record core { queues = x }) (of own m)) (sym queues) (subst (λ (d : Contents). Stands own d core (of own m)) (sym contents) k))
 
 -- ---- other forms
@@ -90,17 +80,19 @@ module _ (own : Cluster) (c : Contents) (core : ClusterCore) (m : Machine) (k : 
       (record { small = tt; owed = tt }, tt)
       (λ key small aside o. owes_requeued (of own m) (of own m).peers (of own m).queues f key (λ i e. refl) o)
 
-  pub forms_done : (c' : Contents) (next : Storage) → next.queues ≡ core.queues.queues → next.ids ≡ core.queues.ids → next.forms ≡ f → c' ≡ with_records (forms_change f ∷ []) c
-      → (Recorded c core.queues → Recorded c' next) → Does own (told (forms_put own f m) reply.Done m) m c' (record core { queues = next }) reply.Done
+  pub forms_done : (c' : Contents) (next : Storage) → next.queues ≡ core.queues.queues → next.ids ≡ core.queues.ids → next.forms ≡ f
+      → c' ≡ with_records (forms_change f ∷ []) c → (Recorded c core.queues → Recorded c' next) → Does own (told (forms_put own f m) reply.Done m) m c' (record core { queues = next }) reply.Done
   forms_done c' next queues ids forms put recorded =
       let files : c'.files ≡ c.files = ap (λ (d : Contents). d.files) put ∙ files_records (forms_change f ∷ []) c in
       let folder : c'.stands wal ≡ c.stands wal = ap (λ (d : Contents). d.stands wal) put ∙ ap (λ (g : List ℕ → Bool). g wal) (stands_records (forms_change f ∷ []) c) in
       does_with own (told (forms_put own f m) reply.Done m) m side c' (record core { queues = next }) reply.Done refl
-      (stands_requeued own c c' core (of own m) core.peers next (of own m).peers (of own m).queues f k files folder (queues_stand next queues ids forms) (recorded k.recorded) (records_stand c' put))
+      (stands_requeued own c c' core (of own m) core.peers next (of own m).peers (of own m).queues f k files folder
+      (queues_stand next queues ids forms) (recorded k.recorded) (records_stand c' put))
 
 -- ---- whether there is a server
 
-pub servers_are : (c : Contents) (other : Side) (stations : List Station) (servers : List Server) → ((s : ℕ) → StationAt c other s (find (is_station s) stations) (find (is_server s) servers)) → not (length stations == 0) ≡ has_server servers
+pub servers_are : (c : Contents) (other : Side) (stations : List Station) (servers : List Server)
+    → ((s : ℕ) → StationAt c other s (find (is_station s) stations) (find (is_server s) servers)) → not (length stations == 0) ≡ has_server servers
 servers_are c other [] [] h = refl
 servers_are c other (st ∷ sts) (v ∷ vs) h = ap not (eqb-suc-zero (length sts))
 servers_are c other [] (v ∷ vs) h =

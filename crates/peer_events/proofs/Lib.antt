@@ -1,4 +1,5 @@
 pub mod Enabled
+pub mod Followed
 pub mod Formed
 pub mod LastCommits
 pub mod Migrated

@@ -1,31 +1,21 @@
 -- What events of the forms of queue records do behind their refusals, and when a record may be migrated.
-use Rattle.std.specs.Prelude.{ℕ, ◌≡◌, true, false, [], ◌∷◌, Some, Result, Ok, Err}
+use Rattle.std.specs.Prelude.{ℕ, ◌≡◌, true, [], ◌∷◌, Some}
 use Rattle.rep_types.specs.declared.ids.Cluster.{Cluster}
-use Rattle.rep_types.specs.declared.reply.Reply.{Reply}
 use Rattle.rep_types.specs.declared.reply.Reply.TheVariants as reply
 use Rattle.rep_types.specs.declared.state.Call.TheVariants as call
 use Rattle.rep_types.specs.declared.state.QueueForm.TheVariants as form
 use Rattle.rep_types.specs.declared.state.QueueForms.{QueueForms}
-use Rattle.rep_vault.specs.Contents.{Contents}
 use Rattle.queue_storage.specs.declared.record.QueueRecord.{QueueRecord}
 use Rattle.queue_storage.specs.Queues.{queue_at}
 use Rattle.rep_model.specs.FormEvents.{is_mixed, is_listed, with_forms, with_queue_form}
 use Rattle.rep_model.specs.Peers.{peer_of}
-use Rattle.rep_model.specs.Plan.{Plan, Asks, Ends, told}
+use Rattle.rep_model.specs.Plan.{Plan, Asks, Ends}
 use Rattle.rep_model.specs.Row.{site}
 use Rattle.rep_model.specs.State.{of}
 use Rattle.rep_model.specs.declared.machine.Machine.{Machine}
 use Rattle.rep_model.specs.declared.machine.Peer.{Peer}
 use Rattle.rep_model.specs.declared.machine.Queue.{Queue}
 use Rattle.cluster_core.specs.declared.parts.ClusterCore.{ClusterCore}
-use Rattle.cluster_core.specs.declared.parts.CoreError.{CoreError}
-use Rattle.cluster_core.specs.declared.parts.CoreError.TheVariants as failed
-use Rattle.cluster_core.specs.Does.{Does}
-
--- at an answer what the plan tells; where memory ran out before anything was changed, all is as before
-abbrev pub Follows : Cluster → Plan → Machine → Contents → ClusterCore → Contents → ClusterCore → Result Reply CoreError → Type 0
-Follows own p m old core new core' (Ok said) = Does own (told p said m) m new core' said
-Follows own p m old core new core' (Err (failed.Memory changed)) = changed ≡ false → (core' ≡ core) × (new ≡ old)
 
 -- one put, and the forms are these
 abbrev pub forms_put : Cluster → QueueForms → Machine → Plan

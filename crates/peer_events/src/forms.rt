@@ -13,7 +13,8 @@ ghost use Rattle.rep_model.specs.declared.machine.Side.{Side};
 ghost use Rattle.cluster_core.specs.Queues.{queue_of};
 ghost use Rattle.cluster_core.specs.Stands.{Stands};
 ghost use Rattle.cluster_core.specs.Does.{Reached, Answers, Counts, FaultTold};
-ghost use Rattle.peer_events.specs.Migrating.{Follows, forms_put, MayMigrate};
+ghost use Rattle.peer_events.specs.Following.{Follows};
+ghost use Rattle.peer_events.specs.Migrating.{forms_put, MayMigrate};
 
 use cluster_core::{ClusterCore, CoreError, added_peer};
 use queue_storage::{QueueError, QueueRecord};

@@ -9,7 +9,8 @@ ghost use Rattle.cluster_core.specs.Lookups.{is_peer_line};
 ghost use Rattle.cluster_core.specs.Stands.{Stands};
 ghost use Rattle.cluster_core.specs.Does.{Reached, Answers, Counts, FaultTold};
 ghost use Rattle.peer_events.specs.Effects.{HasStanding};
-ghost use Rattle.peer_events.specs.Standings.{standing_plan, Follows};
+ghost use Rattle.peer_events.specs.Following.{Follows};
+ghost use Rattle.peer_events.specs.Standings.{standing_plan};
 
 use crate::records::peer_record;
 use cluster_core::{ClusterCore, CoreError, PeerLine, Stored, added_peer, put_records};

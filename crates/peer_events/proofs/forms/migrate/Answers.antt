@@ -10,7 +10,8 @@ use Rattle.cluster_core.specs.declared.parts.ClusterCore.{ClusterCore}
 use Rattle.cluster_core.specs.Queues.{queue_of as as_queue}
 use Rattle.cluster_core.proofs.Answering.{plan_refused}
 use Rattle.peer_events.specs.Migrating.{grouped_put}
-use Rattle.peer_events.proofs.Formed.{follows, put_failed}
+use Rattle.peer_events.proofs.Followed.{follows}
+use Rattle.peer_events.proofs.Formed.{put_failed}
 use Rattle.peer_events.proofs.Migrated.{passed, migrate_done}
 use Rattle.peer_events.proofs.forms.migrate.Goals as goal
 
@@ -29,7 +30,8 @@ returns-in-Ok-migrate-clause-does g c = λ way m reached inside stands.
     follows way core.own (event.Migrate core.own c.args.peer c.args.server) (grouped_put core.own (as_queue may.queued) m) m old core
     (g.V.Vault.contents c.migrate.new.vault) (record core { queues = c.migrate.new.self }) (Ok reply.Done)
     (passed core.own old core m stands c.args.peer c.args.server may)
-    (migrate_done core.own old core m stands c.args.peer c.args.server may (g.V.Vault.contents c.migrate.new.vault) c.migrate.new.self done.queues done.ids done.forms done.records done.recorded)
+    (migrate_done core.own old core m stands c.args.peer c.args.server may (g.V.Vault.contents c.migrate.new.vault) c.migrate.new.self
+    done.queues done.ids done.forms done.records done.recorded)
 
 pub returns-in-Err-StoreFault-clause-does : goal.returns-in-Err-StoreFault-clause-does
 returns-in-Err-StoreFault-clause-does g c = λ way m reached inside stands.
@@ -40,4 +42,5 @@ returns-in-Err-StoreFault-clause-does g c = λ way m reached inside stands.
     follows way core.own (event.Migrate core.own c.args.peer c.args.server) (grouped_put core.own (as_queue may.queued) m) m old core
     (g.V.Vault.contents c.migrate.new.vault) (record core { queues = c.migrate.new.self }) (Ok (reply.StoreFault core.own call.Put c.in-Err-StoreFault.count))
     (passed core.own old core m stands c.args.peer c.args.server may)
-    (put_failed core.own old (g.V.Vault.contents c.migrate.new.vault) core m c.migrate.new.self (Ends reply.Done (with_queue_form core.own form.Grouped (as_queue may.queued) m)) c.in-Err-StoreFault.count stands failed.err failed.stays)
+    (put_failed core.own old (g.V.Vault.contents c.migrate.new.vault) core m c.migrate.new.self
+    (Ends reply.Done (with_queue_form core.own form.Grouped (as_queue may.queued) m)) c.in-Err-StoreFault.count stands failed.err failed.stays)

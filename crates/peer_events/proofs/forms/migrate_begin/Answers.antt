@@ -8,7 +8,8 @@ use Rattle.rep_model.specs.State.{of}
 use Rattle.cluster_core.specs.declared.parts.ClusterCore.{ClusterCore}
 use Rattle.cluster_core.proofs.Answering.{plan_refused}
 use Rattle.peer_events.specs.Migrating.{forms_put}
-use Rattle.peer_events.proofs.Formed.{follows, of_forms, not_old, was_old}
+use Rattle.peer_events.proofs.Followed.{follows}
+use Rattle.peer_events.proofs.Formed.{of_forms, not_old, was_old}
 use Rattle.peer_events.proofs.forms.migrate_begin.Goals as goal
 
 pub returns-then-not-is_old-clause-does : goal.returns-then-not-is_old-clause-does

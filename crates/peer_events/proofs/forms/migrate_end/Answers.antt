@@ -10,7 +10,8 @@ use Rattle.cluster_core.specs.declared.parts.ClusterCore.{ClusterCore}
 use Rattle.cluster_core.specs.Queues.{queue_of}
 use Rattle.cluster_core.proofs.Answering.{plan_refused}
 use Rattle.peer_events.specs.Migrating.{forms_put}
-use Rattle.peer_events.proofs.Formed.{follows, of_forms, first_is, not_mixed, unmigrated, migrated_all}
+use Rattle.peer_events.proofs.Followed.{follows}
+use Rattle.peer_events.proofs.Formed.{of_forms, first_is, not_mixed, unmigrated, migrated_all}
 use Rattle.peer_events.proofs.forms.migrate_end.Goals as goal
 
 pub returns-then-not-is_mixed-clause-does : goal.returns-then-not-is_mixed-clause-does

@@ -8,7 +8,8 @@ use Rattle.rep_model.specs.State.{of}
 use Rattle.cluster_core.specs.declared.parts.ClusterCore.{ClusterCore}
 use Rattle.cluster_core.proofs.Answering.{plan_refused}
 use Rattle.peer_events.specs.Migrating.{forms_put}
-use Rattle.peer_events.proofs.Formed.{follows, of_forms, served, not_new, is_fresh}
+use Rattle.peer_events.proofs.Followed.{follows}
+use Rattle.peer_events.proofs.Formed.{of_forms, served, not_new, is_fresh}
 use Rattle.peer_events.proofs.forms.old_queues.Goals.{then-has_server-via-then-has_server, then-has_server-via-else-has_server+then-not-is_new}
 use Rattle.peer_events.proofs.forms.old_queues.Goals as goal
 
@@ -21,7 +22,9 @@ returns-then-has_server-clause-does g c = λ way m reached inside stands.
       | then-has_server-via-then-has_server w ↦ plan_refused core.own (old_queues_plan core.own m) m old core refusal.Exists (served core.own m (said ∙ w.if-has_server.true)) stands
       | then-has_server-via-else-has_server+then-not-is_new w ↦
           plan_refused core.own (old_queues_plan core.own m) m old core refusal.Exists
-          (not_new core.own m (said ∙ w.if-has_server.false) (of_forms is_new w.is_new.result false w.forms.result core.queues.forms (of core.own m).forms w.is_new.ensures w.forms.ensures stands.queues.forms w.if-not-is_new.true)) stands
+          (not_new core.own m (said ∙ w.if-has_server.false)
+          (of_forms is_new w.is_new.result false w.forms.result core.queues.forms (of core.own m).forms w.is_new.ensures w.forms.ensures stands.queues.forms
+          w.if-not-is_new.true)) stands
     ]
 
 pub returns-clause-does : goal.returns-clause-does
