@@ -1,5 +1,5 @@
 -- Places that divide a server's commits, as more commits come.
-use Rattle.std.proofs.Common.{ℕ, ◌+◌, ◌<◌, ◌≤◌, ◌≡◌, ◌==◌, ◌&&◌, ◌⊎◌, inl, inr, Bool, List, [], ◌∷◌, ◌++◌, filter, take, drop, length, refl, ap, sym, ◌∙◌, subst, arith, append-nil, length-append, ne_eqb, eq-eqb}
+use Rattle.std.proofs.Common.{ℕ, ◌+◌, ◌<◌, ◌≤◌, ◌≡◌, ◌==◌, ◌&&◌, ◌⊎◌, inl, inr, Bool, List, [], ◌∷◌, ◌++◌, filter, take, drop, length, refl, ap, sym, ◌∙◌, subst, arith, length-append, ne_eqb, eq-eqb}
 use Rattle.std.specs.List.{AllByRecursion}
 use Rattle.std.proofs.lemmas.Bool.{and_parts, cases_eq}
 use Rattle.std.proofs.lemmas.List.{take-append-drop, take-append-le, drop-append-le}
@@ -10,15 +10,13 @@ use Rattle.wal_entry.specs.Length.{frame_length}
 use Rattle.rep_model.specs.Commits.{log_commits}
 use Rattle.rep_model.specs.Frames.{commits_length}
 use Rattle.rep_model.specs.declared.machine.Commit.{Commit}
-use Rattle.rep_model.specs.declared.machine.Pending.{Pending}
 use Rattle.rep_model.specs.declared.machine.Server.{Server}
 use Rattle.rep_laws.proofs.Lists.{All_weaker, All_append}
-use Rattle.cluster_core.specs.declared.parts.Kept.{Kept}
-use Rattle.cluster_core.specs.Entries.{coming, server_commits}
+use Rattle.cluster_core.specs.Entries.{server_commits}
 use Rattle.cluster_core.specs.Memory.{kept_of, kept_after}
 use Rattle.cluster_core.specs.QueuePlaces.{kept_by, EndsBy, BeginsFrom, Divides, end_of, IsWithin, IsPlace}
 use Rattle.cluster_core.proofs.QueueLookups.{kept_length}
-use Rattle.cluster_core.proofs.Shelving.{OfLog, coming_of_log, filter_all, filter_none, filter_within, kept_append, length_push, log_push, server_append}
+use Rattle.cluster_core.proofs.Shelving.{OfLog, filter_all, filter_none, filter_within, kept_append, length_push, log_push, server_append}
 
 -- ---- where logs end
 

@@ -1,7 +1,8 @@
 -- The end of a commit's frame as a place that divides its server's commits.
-use Rattle.std.proofs.Common.{ℕ, ◌+◌, ◌<◌, ◌≤◌, ◌≡◌, ◌==◌, ◌⊎◌, inl, inr, Bool, true, false, List, [], ◌∷◌, ◌++◌, find, filter, take, drop, length, Some, refl, ap, sym, ◌∙◌, subst, arith, eqb-true, append_assoc, append-nil, length-append}
+use Rattle.std.proofs.Common.{ℕ, ◌+◌, ◌<◌, ◌≤◌, ◌≡◌, ◌==◌, ◌⊎◌, inl, inr, Bool, true, List, [], ◌∷◌, ◌++◌, find, filter, take, drop, length, Some, refl, ap, sym, ◌∙◌, subst, arith, eqb-true, append_assoc, length-append}
 use Rattle.std.specs.List.{AllByRecursion}
 use Rattle.std.proofs.lemmas.Bool.{cond_both, cases_eq}
+use Rattle.std.proofs.lemmas.List.{take_all, drop_all}
 use Rattle.std.proofs.lemmas.Option.{same_Some}
 use Rattle.std.proofs.Math.Seq.{take-append_seam, drop-append_seam}
 use Rattle.rep_types.specs.declared.ids.Cluster.{Cluster}
@@ -13,14 +14,13 @@ use Rattle.rep_model.specs.Runs.{state_on}
 use Rattle.rep_model.specs.declared.machine.Machine.{Machine}
 use Rattle.rep_model.specs.declared.machine.Commit.{Commit}
 use Rattle.rep_model.specs.declared.machine.Server.{Server}
-use Rattle.rep_laws.proofs.Lists.{All_both, All_weaker, All_append, All_filtered, All_passing, All_middle}
+use Rattle.rep_laws.proofs.Lists.{All_both, All_weaker, All_append, All_filtered, All_middle}
 use Rattle.rep_laws.proofs.LogsPart.{InLog, LogsRise, LogIn, logged_at}
 use Rattle.rep_laws.proofs.Steady.{steady_run}
-use Rattle.cluster_core.specs.declared.parts.Kept.{Kept}
 use Rattle.cluster_core.specs.Does.{Reached}
 use Rattle.cluster_core.specs.Entries.{server_commits}
 use Rattle.cluster_core.specs.Memory.{kept_of, kept_after}
-use Rattle.cluster_core.specs.QueuePlaces.{kept_by, EndsBy, BeginsFrom, Divides, end_of, IsWithin, IsPlace}
+use Rattle.cluster_core.specs.QueuePlaces.{kept_by, EndsBy, BeginsFrom, Divides, end_of, IsPlace}
 use Rattle.cluster_core.proofs.Divided.{IsEarlier, IsLater, begin_behind, end_before, end_grows, end_of_server, end_pushed}
 use Rattle.cluster_core.proofs.QueueLookups.{kept_length}
 use Rattle.cluster_core.proofs.Shelving.{kept_append}
@@ -129,4 +129,37 @@ module _ {way : Route} (own : Cluster) (m : Machine) (pair : is_in way own ≡ t
       | inl above ↦ inl above
       | inr here ↦ inr (here, subst (λ n. end_of s y.log (front ++ y ∷ []) ≤ n) (ap (λ t. end_of t y.log (of own m).commits) (sym number) ∙ ap (λ l. end_of v.number l (of own m).commits) here) reaches)
     ];
+  }
+
+-- ---- behind all commits
+
+-- where the server's current log ends
+abbrev pub last_place : List Commit → Server → Place
+last_place C v = record { log = v.log; offset = end_of v.number v.log C }
+
+module _ {way : Route} (own : Cluster) (m : Machine) (reached : Reached way m) (v : Server) (known : find (is_server v.number) (of own m).servers ≡ Some v) where
+  abbrev ended : List Commit
+  ended = server_commits v.number (of own m).commits
+
+  no_later : AllByRecursion (IsEarlier v.number (last_place (of own m).commits v)) ended
+  no_later =
+      let l : LogIn (of own m) = subst (λ (k : Machine). LogIn (of own k)) reached.leads (logged_at own (state_on way reached.steps) (steady_run way reached.steps reached.legal).logged) in
+      All_both (λ z o i. (o, less_or_same z.log v.log (subst (λ (w : Server). z.log ≤ w.log) (same_Some i.0 v (sym i.1 ∙ (ap (λ n. find (is_server n) (of own m).servers) o ∙ known))) i.2)))
+      ended (all_of_server v.number (of own m).commits) (All_filtered (InLog (of own m).servers) (λ (x : Commit). x.server == v.number) (of own m).commits l.within)
+
+  as_many : length (kept_by v.number (of own m).commits) ≤ length ended
+  as_many = subst (λ n. n ≤ length ended) (sym (kept_length [] ended)) (no_more _)
+
+  reach : end_of v.number v.log ended ≤ end_of v.number v.log (of own m).commits
+  reach = subst (λ n. n ≤ end_of v.number v.log (of own m).commits) (sym (end_of_server v.number v.log (of own m).commits)) (no_more _)
+
+  -- all commits of the server stand before it
+  pub all_end_is_place : IsPlace (of own m).commits v (length ended) (last_place (of own m).commits v)
+  all_end_is_place = record {
+    divides = record {
+      before = subst (AllByRecursion (EndsBy (last_place (of own m).commits v))) (sym (take_all (length ended) (kept_by v.number (of own m).commits) as_many))
+          (end_before v.number (last_place (of own m).commits v) [] ended no_later reach);
+      behind = subst (AllByRecursion (BeginsFrom (last_place (of own m).commits v))) (sym (drop_all (length ended) (kept_by v.number (of own m).commits) as_many)) tt;
+    };
+    within = inr (refl, no_more _);
   }

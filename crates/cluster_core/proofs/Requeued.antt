@@ -1,8 +1,8 @@
 -- What a change of peers and queues leaves standing of memory and a store.
-use Rattle.std.proofs.Common.{ℕ, ◌≤◌, ◌≡◌, ◌==◌, Bool, true, false, cond, List, [], ◌∷◌, map, find, Option, Some, None, option_map, refl, ap, sym, ◌∙◌, subst, eqb-true, eq-eqb}
+use Rattle.std.proofs.Common.{ℕ, ◌≡◌, Bool, true, false, cond, List, [], ◌∷◌, map, find, Option, Some, None, option_map, refl, ap, sym, ◌∙◌, eqb-true, eq-eqb}
 use Rattle.std.specs.List.{AllByRecursion}
 use Rattle.std.proofs.lemmas.Bool.{cond_both, cond-true, cond-false, and_parts, and_from, true≢false}
-use Rattle.std.proofs.lemmas.Option.{none-some, same_Some}
+use Rattle.std.proofs.lemmas.Option.{same_Some}
 use Rattle.rep_types.specs.declared.ids.Cluster.{Cluster}
 use Rattle.rep_types.specs.declared.state.QueueForms.{QueueForms}
 use Rattle.rep_vault.specs.Contents.{Contents}
@@ -11,7 +11,7 @@ use Rattle.queue_storage.specs.declared.record.QueueRecord.{QueueRecord}
 use Rattle.queue_storage.specs.Queues.{Storage, is_queue as is_record, queue_at, AreApart}
 use Rattle.queue_storage.specs.Recorded.{Recorded}
 use Rattle.rep_model.specs.Keyed.{replace}
-use Rattle.rep_model.specs.State.{is_peer, is_queue}
+use Rattle.rep_model.specs.State.{is_peer}
 use Rattle.rep_model.specs.declared.machine.Side.{Side}
 use Rattle.rep_model.specs.declared.machine.Peer.{Peer}
 use Rattle.rep_model.specs.declared.machine.Queue.{Queue}
@@ -20,11 +20,10 @@ use Rattle.rep_laws.proofs.FrontPart.{ApartQueues, UniqueQueues}
 use Rattle.cluster_core.specs.declared.parts.ClusterCore.{ClusterCore}
 use Rattle.cluster_core.specs.declared.parts.PeerLine.{PeerLine}
 use Rattle.cluster_core.specs.Texts.{RecordKey, OfTable, OfRegion, OfBarriers, OfServer, OfPeer, OfQueue, OfLast, OfForms, peer_text}
-use Rattle.cluster_core.specs.Memory.{IndexStands}
 use Rattle.cluster_core.specs.Queues.{queue_of, QueuesStand}
 use Rattle.cluster_core.specs.Stands.{RecordsStand, Stands}
-use Rattle.cluster_core.proofs.RecordsPut.{Owes, records_kept}
-use Rattle.cluster_core.proofs.Staying.{is_same_server, servers_kept}
+use Rattle.cluster_core.proofs.RecordsPut.{Owes}
+use Rattle.cluster_core.proofs.Staying.{servers_kept}
 
 -- ---- lists
 

@@ -1,9 +1,10 @@
 -- Nothing in memory and a store as new stand for the opening.
-use Rattle.std.proofs.Common.{ℕ, suc, ◌≡◌, ◌≤◌, inl, false, [], length, refl, ap, sym, subst, arith}
+use Rattle.std.proofs.Common.{ℕ, zero, suc, ◌≡◌, ◌≤◌, inl, false, [], length, refl, ap, sym, subst, arith}
 use Rattle.rep_types.specs.declared.ids.Cluster.{Cluster}
 use Rattle.rep_types.specs.declared.ids.Cluster.TheVariants.{A, B}
 use Rattle.rep_vault.specs.Contents.{Contents, new_contents}
 use Rattle.rep_vault.specs.Tallies.{Tally}
+use Rattle.rep_model.specs.Keyed.{given}
 use Rattle.rep_model.specs.State.{empty_side}
 use Rattle.rep_model.specs.Runs.{Counts}
 use Rattle.rep_model.specs.declared.machine.Machine.{Machine}
@@ -29,17 +30,18 @@ none_told OfForms = tt
 
 -- no peer has a last pushed id
 none_pushed : (p r : ℕ) → last_pushed p r no_queues.ids ≡ 0
-none_pushed 0 r = refl
-none_pushed 1 r = refl
-none_pushed 2 r = refl
-none_pushed 3 r = refl
-none_pushed 4 r = refl
+none_pushed zero r = refl
+none_pushed (suc zero) r = refl
+none_pushed (suc (suc zero)) r = refl
+none_pushed (suc (suc (suc zero))) r = refl
+none_pushed (suc (suc (suc (suc zero)))) r = refl
 none_pushed (suc (suc (suc (suc (suc p))))) r = refl
 
 none_recorded : Recorded new_contents no_queues
 none_recorded = record { queues = λ p q small small'. refl; ids = λ p r small small'. sym (ap last_text (none_pushed p r)); forms = refl; apart = tt }
 
 stands_new : (own : Cluster) → Stands own new_contents (empty_core own) empty_side
+unfolding given
 stands_new own = record {
   own_is = refl;
   folder = refl;

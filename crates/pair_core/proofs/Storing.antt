@@ -44,14 +44,14 @@ found_again : (qs : List QueueRecord) → AreApart qs → (q : QueueRecord) → 
 found_again [] a q i = absurd i
 found_again (x ∷ xs) a q i = elim i [
   | inl e ↦ ap (λ (y : QueueRecord). cond (is_record y.peer y.server x) (Some x) (queue_at y.peer y.server xs)) e ∙ (cond-true (is_record x.peer x.server x) (Some x) (queue_at x.peer x.server xs) (and_from _ _ (eq-eqb x.peer x.peer refl) (eq-eqb x.server x.server refl)) ∙ ap (λ (y : QueueRecord). Some y) (sym e))
-  | inr j ↦ cond-false (is_record q.peer q.server x) (Some x) (queue_at q.peer q.server xs) (apart (is_record q.peer q.server x) refl j) ∙ found_again xs a.1 q j
+  | inr j ↦ cond-false (is_record q.peer q.server x) (Some x) (queue_at q.peer q.server xs) (apart (is_record q.peer q.server x) refl (found_again xs a.1 q j)) ∙ found_again xs a.1 q j
 ]
   where
-    apart : (b : Bool) → is_record q.peer q.server x ≡ b → In q xs → is_record q.peer q.server x ≡ false
-    apart false e j = e
-    apart true e j =
+    apart : (b : Bool) → is_record q.peer q.server x ≡ b → queue_at q.peer q.server xs ≡ Some q → is_record q.peer q.server x ≡ false
+    apart false e h = e
+    apart true e h =
         let keys = and_parts (x.peer == q.peer) (x.server == q.server) e in
-        absurd (none-some q (sym a.0 ∙ (ap (λ p. queue_at p x.server xs) (eqb-true x.peer q.peer keys.0) ∙ (ap (λ s. queue_at q.peer s xs) (eqb-true x.server q.server keys.1) ∙ found_again xs a.1 q j))))
+        absurd (none-some q (sym a.0 ∙ (ap (λ p. queue_at p x.server xs) (eqb-true x.peer q.peer keys.0) ∙ (ap (λ s. queue_at q.peer s xs) (eqb-true x.server q.server keys.1) ∙ h))))
 
 queue_told : (c : Contents) (side : Side) (s : Storage) (q : QueueRecord) → Recorded c s → In q s.queues → IsAt side q → QueueTold c side (queue_of q)
 queue_told c side s q recorded i k = record {

@@ -18,9 +18,7 @@ ghost use Rattle.pair_core.specs.Performs.{Performs, FaultRose};
 use crate::sides::{Sides, accepted, cluster_of, destination, is_b};
 use cluster_core::{ClusterCore, CoreError, Sent};
 use data_events::{get, put, show};
-use peer_events::{
-    disable, enable, migrate, migrate_begin, migrate_end, old_queues, peer, remove,
-};
+use peer_events::{disable, enable, migrate, migrate_begin, migrate_end, old_queues, peer, remove};
 use queue_events::{claim, confirm, deliver, lose, send};
 use region_events::{close_begin, close_end, open_begin, open_end, recover, table};
 use region_meta::RegionMap;
@@ -165,7 +163,10 @@ fn on_side<V: Vault>(
         Event::Lose { flight } => lose(core, flights, *flight),
         Event::Confirm { flight } => confirm(core, alloc, own, flights, *flight),
         Event::Claim {
-            by, server, peer, ..
+            by,
+            server,
+            peer,
+            ..
         } => claim(core, own, *by, *server, *peer),
         Event::OldQueues { .. } => old_queues(core, own),
         Event::MigrateBegin { .. } => migrate_begin(core, own),

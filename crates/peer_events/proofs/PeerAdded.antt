@@ -1,32 +1,36 @@
 -- A new peer, its record and its queues.
-use Rattle.std.proofs.Common.{ℕ, le_refl, ◌<◌, ◌≤◌, ◌^◌, ◌≡◌, ◌==◌, ◌||◌, cond, not, Bool, true, false, List, [], ◌∷◌, ◌++◌, map, find, filter, drop, length, Option, Some, None, is_some, refl, ap, sym, ◌∙◌, subst, eq-eqb, ne_eqb}
+use Rattle.std.proofs.Common.{decimal, ℕ, inl, inr, max, le_refl, arith, ◌<◌, ◌^◌, ◌≡◌, ◌==◌, ◌||◌, not, Bool, true, false, List, [], ◌∷◌, ◌++◌, map, find, take, length, Option, Some, None, is_some, refl, ap, sym, ◌∙◌, subst, eq-eqb, ne_eqb}
 use Rattle.std.specs.List.{AllByRecursion, list_any}
 use Rattle.std.specs.Option.{option_map}
-use Rattle.std.proofs.lemmas.Bool.{cond-true, cond_both, true≢false}
-use Rattle.std.proofs.lemmas.List.{map-append, drop_all}
+use Rattle.std.proofs.lemmas.Bool.{cond-true, cond-false, cases_eq, true≢false}
+use Rattle.std.proofs.lemmas.List.{map-append, take_all}
 use Rattle.rep_types.specs.declared.ids.Cluster.{Cluster}
 use Rattle.rep_types.specs.declared.table.Family.{Family}
 use Rattle.rep_types.specs.declared.state.Kind.TheVariants as kind
-use Rattle.rep_types.specs.declared.state.QueueForm.{QueueForm}
-use Rattle.rep_types.specs.declared.state.QueueForms.{QueueForms}
 use Rattle.rep_types.specs.declared.state.Call.TheVariants as call
 use Rattle.rep_types.specs.declared.refusal.Refusal.{Refusal}
 use Rattle.rep_types.specs.declared.refusal.Refusal.TheVariants as refusal
 use Rattle.rep_types.specs.declared.reply.Reply.{Reply}
 use Rattle.rep_types.specs.declared.reply.Reply.TheVariants as reply
-use Rattle.rep_vault.specs.Contents.{Contents, with_records}
+use Rattle.rep_vault.specs.declared.store.Change.{Change}
+use Rattle.rep_vault.specs.Contents.{Contents, changed, with_records}
 use Rattle.rep_vault.proofs.Frames.{files_records, stands_records, records_records}
 use Rattle.wal_roll.specs.Log.{wal}
+use Rattle.last_ids.specs.declared.ids.LastId.{LastId}
+use Rattle.queue_storage.specs.declared.record.QueueRecord.{QueueRecord}
+use Rattle.queue_storage.specs.Ids.{last_pushed, pushed, ArePushed}
+use Rattle.queue_storage.specs.Queues.{Storage, AreApart}
+use Rattle.queue_storage.specs.Recorded.{Recorded, AreBeside}
+use Rattle.queue_storage.specs.Texts.{queue_change, last_change}
+use Rattle.queue_storage.proofs.Keys.{peer_beside}
 use Rattle.region_meta.specs.Regions.{Map}
 use Rattle.rep_model.specs.Keyed.{given, if_some}
 use Rattle.rep_model.specs.State.{Route, of, with, dest, is_server, is_peer}
 use Rattle.rep_model.specs.Words.{is_in}
-use Rattle.rep_model.specs.FormEvents.{made_form}
+use Rattle.rep_model.specs.Commits.{commit_count}
 use Rattle.rep_model.specs.Path.{refusal_of}
 use Rattle.rep_model.specs.Plan.{Asks, Ends, told}
 use Rattle.rep_model.specs.Places.{table_of}
-use Rattle.rep_model.specs.Queues.{is_queued}
-use Rattle.rep_model.specs.LogEvents.{new_queue}
 use Rattle.rep_model.specs.Row.{site}
 use Rattle.rep_model.specs.PeerEvents.{new_peer, new_queues, peer_plan}
 use Rattle.rep_model.specs.PeerEvents as state
@@ -36,33 +40,36 @@ use Rattle.rep_model.specs.declared.machine.Table.{Table}
 use Rattle.rep_model.specs.declared.machine.Server.{Server}
 use Rattle.rep_model.specs.declared.machine.Peer.{Peer}
 use Rattle.rep_model.specs.declared.machine.Queue.{Queue}
-use Rattle.rep_model.specs.declared.machine.Commit.{Commit}
 use Rattle.rep_model.specs.declared.machine.Standing.TheVariants as standing
 use Rattle.rep_laws.proofs.Lists.{In, all_in, All_weaker, All_append}
 use Rattle.rep_laws.proofs.Finding.{find_first, find_aside, find_more}
+use Rattle.rep_laws.proofs.FrontPart.{peer_numbers, ApartQueues, UniqueQueues, peer_absent, unique_joined, peer_queues_all, peer_queues_unique, all_of}
 use Rattle.rep_laws.proofs.Citing.{passes}
 use Rattle.rep_laws.proofs.CitedMore.{server_is_found}
 use Rattle.cluster_core.specs.declared.parts.ClusterCore.{ClusterCore}
 use Rattle.cluster_core.specs.declared.parts.PeerLine.{PeerLine}
-use Rattle.cluster_core.specs.declared.parts.Line.{Line}
 use Rattle.cluster_core.specs.declared.parts.Shelf.{Shelf}
-use Rattle.cluster_core.specs.declared.parts.Station.{Station}
-use Rattle.cluster_core.specs.Texts.{RecordKey, OfTable, OfRegion, OfBarriers, OfServer, OfPeer, peer_text}
+use Rattle.cluster_core.specs.Texts.{RecordKey, OfPeer, peer_text}
 use Rattle.cluster_core.specs.Changes.{setting}
-use Rattle.cluster_core.specs.Entries.{server_commits}
 use Rattle.cluster_core.specs.Lookups.{is_peer_line}
-use Rattle.cluster_core.specs.Memory.{map_of, shelf_of, kept_after, peer_line, queue_of_line, IsAt}
-use Rattle.cluster_core.specs.Stands.{number_of, is_station, StationAt, Stands}
+use Rattle.cluster_core.specs.Memory.{map_of, map_region, peer_line}
+use Rattle.cluster_core.specs.Queues.{queue_of, IsAt, pushed_by, pushed_at, QueuesStand}
+use Rattle.cluster_core.specs.Stands.{IsSmall, is_station, StationAt, RecordsStand, Stands}
 use Rattle.cluster_core.specs.Does.{Does, Reached}
 use Rattle.cluster_core.proofs.Asking.{failed_one}
 use Rattle.cluster_core.proofs.Finds.{find_map}
+use Rattle.cluster_core.proofs.Landing.{all_end_is_place}
 use Rattle.cluster_core.proofs.Lookups.{families_found}
-use Rattle.cluster_core.proofs.QueueLookups.{kept_length}
-use Rattle.cluster_core.proofs.RecordsPut.{Owes, Put, IsAside, records_put}
+use Rattle.cluster_core.proofs.Queued.{fronts_of}
+use Rattle.cluster_core.proofs.QueuePuts.{put_of, queues_put, queues_due, last_put, lasts_put, lasts_due}
+use Rattle.cluster_core.proofs.RecordsPut.{Owes, Put, IsAside, IsDue, change_of, records_put}
+use Rattle.cluster_core.proofs.Requeued.{apart_of_unique, requeued, owes_requeued, stands_requeued}
 use Rattle.cluster_core.proofs.Simple.{does_with, does_nothing}
-use Rattle.cluster_core.proofs.Staying.{servers_kept, lines_kept}
+use Rattle.cluster_core.proofs.Staying.{is_same_peer, is_same_server, queues_kept}
 use Rattle.peer_events.specs.Tables.{families_of, families_lack, lacks_table, table_lacks_family}
-use Rattle.peer_events.specs.Effects.{takes_queues, new_line, new_lines, new_peer_line, with_added}
+use Rattle.peer_events.specs.Effects.{last_id, new_records, new_peer_line, with_new_peer}
+use Rattle.peer_events.proofs.LastCommits.{all_pushed}
+use Rattle.peer_events.proofs.NewQueues.{Starts, starts, queues_of_records, EndsLast, records_at}
 
 -- ---- why no peer is added
 
@@ -126,124 +133,155 @@ module _ (way : Route) (own : Cluster) (p : ℕ) (tables : List (List ℕ)) (m :
   unfolding peer_plan
   refused_not e f g = let e' = sym exists_is ∙ e in let f' = sym tables_is ∙ f in let g' = sym families_is ∙ g in rw (e', f', g') refl
 
--- ---- the new queues
-
--- memory and the state agree on who gets a queue
-takes_is : (c : Contents) (side : Side) (s : ℕ) (o : Option Station) (v : Server) → StationAt c side s o (Some v) → if_some o (λ st. st.live || not st.sealed) ≡ (v.live || not v.sealed)
-unfolding given
-takes_is c side s (Some st) v k = λ i. k.live i || not (k.sealed i)
-takes_is c side s None v k = absurd k
-
-module _ (forms : QueueForms) (p : ℕ) (stations : List Station) (commits : List Commit) where
-  -- the server gets a queue by memory if it does by the state
-  abbrev Agrees : Server → Type 0
-  Agrees v = takes_queues v.number stations ≡ (v.live || not v.sealed)
-
-  abbrev made : List Server → List Line
-  made vs = new_lines (made_form forms) p stations (map (shelf_of commits) vs)
-
-  queues_of_lines : (vs : List Server) → AllByRecursion Agrees vs → map queue_of_line (made vs) ≡ new_queues forms p vs
-  queues_of_lines [] a = refl
-  queues_of_lines (v ∷ vs) a =
-      ap (λ (b : Bool). map queue_of_line (cond b (new_line (made_form forms) p (shelf_of commits v) ∷ made vs) (made vs))) a.0
-      ∙ by (v.live || not v.sealed) (queues_of_lines vs a.1)
-    where
-      by : (b : Bool) → map queue_of_line (made vs) ≡ new_queues forms p vs
-          → map queue_of_line (cond b (new_line (made_form forms) p (shelf_of commits v) ∷ made vs) (made vs))
-          ≡ cond b (new_queue forms p v.number ∷ new_queues forms p vs) (new_queues forms p vs)
-      by true e = ap (λ (qs : List Queue). new_queue forms p v.number ∷ qs) e
-      by false e = e
-
--- each is of the new peer, and empty
-line_at : (form : QueueForm) (side : Side) (p : ℕ) (x : Peer) (v : Server) → find (is_peer p) side.peers ≡ Some x → x.start ≡ length side.commits → IsAt side (new_line form p (shelf_of side.commits v))
-line_at form side p x v known start = record {
-  peer = x;
-  known = known;
-  within = ended;
-  queued = ap (filter (is_queued x v.number)) (ap (λ n. drop n side.commits) start ∙ drop_all (length side.commits) side.commits (le_refl (length side.commits)))
-      ∙ sym (drop_all (length (kept_after [] (server_commits v.number side.commits))) (server_commits v.number side.commits) begun);
-}
-  where
-    same : length (kept_after [] (server_commits v.number side.commits)) ≡ length (server_commits v.number side.commits)
-    same = kept_length [] (server_commits v.number side.commits)
-
-    ended : length (kept_after [] (server_commits v.number side.commits)) ≤ length (server_commits v.number side.commits)
-    ended = subst (λ n. n ≤ length (server_commits v.number side.commits)) (sym same) (le_refl (length (server_commits v.number side.commits)))
-
-    begun : length (server_commits v.number side.commits) ≤ length (kept_after [] (server_commits v.number side.commits))
-    begun = subst (λ n. length (server_commits v.number side.commits) ≤ n) (sym same) (le_refl (length (server_commits v.number side.commits)))
-
-lines_at : (form : QueueForm) (side : Side) (p : ℕ) (x : Peer) (stations : List Station) (vs : List Server)
-    → find (is_peer p) side.peers ≡ Some x → x.start ≡ length side.commits → AllByRecursion (IsAt side) (new_lines form p stations (map (shelf_of side.commits) vs))
-lines_at form side p x stations [] known start = tt
-lines_at form side p x stations (v ∷ vs) known start =
-    cond_both (takes_queues v.number stations) (new_line form p (shelf_of side.commits v) ∷ new_lines form p stations (map (shelf_of side.commits) vs))
-    (new_lines form p stations (map (shelf_of side.commits) vs)) (AllByRecursion (IsAt side))
-    (λ _. (line_at form side p x v known start, lines_at form side p x stations vs known start))
-    (λ _. lines_at form side p x stations vs known start)
-
 -- ---- memory and the store with the peer
 
 -- the side with the peer and its queues
 abbrev pub side_after : ℕ → List (List ℕ) → Side → Side
-side_after p tables side = record side { peers = side.peers ++ new_peer p kind.Plain tables (length side.commits) ∷ []; queues = side.queues ++ new_queues side.forms p side.servers }
+side_after p tables side = requeued (side.peers ++ new_peer p kind.Plain tables (length side.commits) ∷ []) (side.queues ++ new_queues side.forms p side.servers) side.forms side
 
-module _ (own : Cluster) (c c' : Contents) (core : ClusterCore) (side : Side) (p : ℕ) (tables : List (List ℕ)) (stands : Stands own c core side) (small : p < 2 ^ 32)
-    (free : find (is_peer p) side.peers ≡ None) (known : AllByRecursion (λ (v : Server). find (is_server v.number) side.servers ≡ Some v) side.servers)
-    (put : c' ≡ with_records (setting (OfPeer p) (peer_text kind.Plain standing.Enabled tables) ∷ []) c) where
+-- what memory makes of the new peer's queues, and of its last pushed ids
+abbrev pub made_queues : ℕ → ClusterCore → List QueueRecord
+made_queues p core = new_records core.queues.forms p core.stations core.index.shelves
+
+abbrev pub made_ids : ClusterCore → List LastId
+made_ids core = map (last_id core.index.traces) core.map.regions
+
+-- what the queue store has then
+pub record IsGiven (p : ℕ) (core : ClusterCore) (next : Storage) : Type 0 where
+  pub queues : next.queues ≡ core.queues.queues ++ made_queues p core
+  pub ids : ArePushed p (made_ids core) core.queues.ids next.ids
+  pub forms : next.forms ≡ core.queues.forms
+
+max_zero : (n : ℕ) → max n 0 ≡ n
+max_zero n = omega arith
+
+module _ {way : Route} (own : Cluster) (c : Contents) (core : ClusterCore) (m : Machine) (stands : Stands own c core (of own m)) (reached : Reached way m) (inside : is_in way own ≡ true)
+    (p : ℕ) (tables : List (List ℕ)) (free : find (is_peer p) (of own m).peers ≡ None) where
+  abbrev side : Side
+  side = of own m
+
   abbrev after : Side
   after = side_after p tables side
 
   abbrev joined : Peer
   joined = new_peer p kind.Plain tables (length side.commits)
 
-  abbrev puts : List Put
-  puts = record { key = OfPeer p; value = Some (peer_text kind.Plain standing.Enabled tables) } ∷ []
-
-  abbrev words : Peer → List ℕ
-  words x = peer_text x.kind x.standing x.tables
+  -- servers are found by their numbers
+  server_found : (v : Server) → In v side.servers → find (is_server v.number) side.servers ≡ Some v
+  server_found v =
+      subst (λ (k : Machine). In v (of own k).servers → find (is_server v.number) (of own k).servers ≡ Some v) reached.leads
+      (server_is_found way reached.steps reached.legal own inside v)
 
   found : find (is_peer p) after.peers ≡ Some joined
   found = find_first (is_peer p) side.peers (joined ∷ []) free ∙ cond-true (p == p) (Some joined) None (eq-eqb p p refl)
 
-  others : (k : RecordKey) → number_of k < 2 ^ 32 → IsAside puts k → (o : Option (List ℕ)) → Owes side k o → Owes after k o
-  others (OfTable t) few aside o h = h
-  others (OfRegion r) few aside o h = h
-  others (OfBarriers r) few aside o h = h
-  others (OfServer s) few aside o h = h
-  others (OfPeer q) few aside o h = h ∙ sym (ap (option_map words) (find_aside (is_peer q) joined side.peers (ne_eqb p q (λ e. aside.0 (ap OfPeer e)))))
+  -- ---- its queues
 
-  -- the form of the new queues
-  abbrev form : QueueForm
-  form = made_form core.forms
+  starts_are : AllByRecursion (Starts core.stations side.commits) side.servers
+  starts_are = All_weaker (λ v i. starts c side core.stations v (subst (StationAt c side v.number (find (is_station v.number) core.stations)) (server_found v i) (stands.servers v.number)))
+      side.servers (all_in side.servers)
 
-  agree : AllByRecursion (Agrees side.forms p core.stations side.commits) side.servers
-  agree = All_weaker (λ v e. takes_is c side v.number (find (is_station v.number) core.stations) v
-      (subst (StationAt c side v.number (find (is_station v.number) core.stations)) e (stands.servers v.number))) side.servers known
+  ends_are : AllByRecursion (EndsLast after) side.servers
+  ends_are = All_weaker (λ v i. (server_found v i, all_end_is_place own m reached v (server_found v i))) side.servers (all_in side.servers)
 
-  pub peer_stands : Stands own c' (with_added p tables core) after
-  peer_stands = record {
-    own_is = stands.own_is;
-    folder = ap (λ (d : Contents). d.stands wal) put ∙ (ap (λ (f : List ℕ → Bool). f wal) (stands_records _ c) ∙ stands.folder);
-    regions = stands.regions;
-    index = record { traces = stands.index.traces; shelves = stands.index.shelves; cells = stands.index.cells };
-    servers = servers_kept c c' side after core.stations (ap (λ (d : Contents). d.files) put ∙ files_records _ c) refl refl stands.servers;
-    queues = record {
-      peers = ap (λ (ps : List PeerLine). ps ++ new_peer_line p tables ∷ []) stands.queues.peers ∙ sym (map-append peer_line side.peers (joined ∷ []));
-      plain = All_append (λ (x : PeerLine). x.kind ≡ kind.Plain) core.peers (new_peer_line p tables ∷ []) stands.queues.plain (refl, tt);
-      queues = map-append queue_of_line core.lines (new_lines form p core.stations core.index.shelves)
-          ∙ ((λ i. stands.queues.queues i ++ map queue_of_line (new_lines (made_form (stands.forms i)) p core.stations (stands.index.shelves i)))
-          ∙ ap (λ (qs : List Queue). side.queues ++ qs) (queues_of_lines side.forms p core.stations side.commits side.servers agree));
-      at = All_append (IsAt after) core.lines (new_lines form p core.stations core.index.shelves)
-          (lines_kept side after core.lines refl (λ n x e. find_more (is_peer n) x side.peers (joined ∷ []) e) stands.queues.at)
-          (subst (λ (xs : List Shelf). AllByRecursion (IsAt after) (new_lines form p core.stations xs)) (sym stands.index.shelves) (lines_at form after p joined core.stations side.servers found refl));
-    };
-    records = records_put c c' side after puts (ap (λ (d : Contents). d.records) put ∙ records_records _ c) stands.records
-        (record { small = small; owed = sym (ap (option_map words) found) }, tt) others;
-    framed = stands.framed;
-    forms = stands.forms;
-    link = stands.link;
+  made_at : AllByRecursion (IsAt after) (made_queues p core)
+  made_at = subst (λ (xs : List Shelf). AllByRecursion (IsAt after) (new_records core.queues.forms p core.stations xs)) (sym stands.index.shelves)
+      (records_at core.queues.forms after p joined found refl core.stations side.servers starts_are ends_are)
+
+  all_queues : map queue_of (core.queues.queues ++ made_queues p core) ≡ after.queues
+  all_queues =
+      map-append queue_of core.queues.queues (made_queues p core)
+      ∙ ((λ i. stands.queues.queues i ++ map queue_of (new_records (stands.queues.forms i) p core.stations (stands.index.shelves i)))
+      ∙ ap (λ (qs : List Queue). side.queues ++ qs) (queues_of_records side.forms p core.stations side.commits side.servers starts_are))
+
+  -- no two of the queues are of one peer and one server
+  pub apart_then : AreApart (core.queues.queues ++ made_queues p core)
+  apart_then =
+      let fronts = fronts_of own inside m reached in
+      let absent : In p (peer_numbers side.peers) → ⊥ = peer_absent p side.peers free in
+      apart_of_unique (core.queues.queues ++ made_queues p core) (subst UniqueQueues (sym all_queues)
+      (unique_joined side.queues (new_queues side.forms p side.servers) fronts.unique (peer_queues_unique side.forms p side.servers fronts.servers_differ)
+      (All_weaker (λ q i. peer_queues_all side.forms (ApartQueues q) p side.servers (all_of _ (λ v e f. absent (subst (λ k. In k (peer_numbers side.peers)) e i)) side.servers)) side.queues fronts.known)))
+
+  -- ---- its last pushed ids
+
+  nothing_pushed : (r : ℕ) → pushed_at p r side ≡ 0
+  unfolding given
+  nothing_pushed r = ap (λ (o : Option Peer). given o 0 (pushed_by r side.commits)) free
+
+  own_pushed : (r : ℕ) → commit_count r side.commits ≡ pushed_at p r after
+  unfolding given
+  own_pushed r =
+      sym (ap (λ (o : Option Peer). given o 0 (pushed_by r side.commits)) found
+      ∙ (max_zero (commit_count r (take (length side.commits) side.commits))
+      ∙ ap (commit_count r) (take_all (length side.commits) side.commits (le_refl (length side.commits)))))
+
+  other_pushed : (q r : ℕ) → (q ≡ p → ⊥) → pushed_at q r side ≡ pushed_at q r after
+  other_pushed q r apart = ap (λ (o : Option Peer). given o 0 (pushed_by r side.commits)) (sym (find_aside (is_peer q) joined side.peers (ne_eqb p q (λ e. apart (sym e)))))
+
+  ids_are : made_ids core ≡ map (last_id core.index.traces) (map map_region side.regions)
+  ids_are = ap (λ (x : Map). map (last_id core.index.traces) x.regions) stands.regions
+
+  last_are : (ids : List (List LastId)) → ArePushed p (made_ids core) core.queues.ids ids → (q r : ℕ) → last_pushed q r ids ≡ pushed_at q r after
+  last_are ids push q r = push q r ∙ elim (cases_eq q p) [
+    | inl e ↦
+        cond-true (q == p) (pushed r (made_ids core) (last_pushed q r core.queues.ids)) (last_pushed q r core.queues.ids) (eq-eqb q p e)
+        ∙ (ap (λ (xs : List LastId). pushed r xs (last_pushed q r core.queues.ids)) ids_are
+        ∙ (all_pushed own m inside reached core.index stands.index r (last_pushed q r core.queues.ids) (ap (λ k. last_pushed k r core.queues.ids) e ∙ (stands.queues.last p r ∙ nothing_pushed r))
+        ∙ (own_pushed r ∙ ap (λ k. pushed_at k r after) (sym e))))
+    | inr apart ↦
+        cond-false (q == p) (pushed r (made_ids core) (last_pushed q r core.queues.ids)) (last_pushed q r core.queues.ids) (ne_eqb q p apart)
+        ∙ (stands.queues.last q r ∙ other_pushed q r apart)
+  ]
+
+  -- ---- all of it
+
+  queues_stand : (next : Storage) → IsGiven p core next → QueuesStand (record core { peers = core.peers ++ new_peer_line p tables ∷ []; queues = next }) after
+  queues_stand next g = record {
+    peers = ap (λ (ps : List PeerLine). ps ++ new_peer_line p tables ∷ []) stands.queues.peers ∙ sym (map-append peer_line side.peers (joined ∷ []));
+    plain = All_append (λ (x : PeerLine). x.kind ≡ kind.Plain) core.peers (new_peer_line p tables ∷ []) stands.queues.plain (refl, tt);
+    queues = ap (map queue_of) g.queues ∙ all_queues;
+    at = subst (AllByRecursion (IsAt after)) (sym g.queues) (All_append (IsAt after) core.queues.queues (made_queues p core)
+        (queues_kept side after core.queues.queues refl (λ n x e. is_same_peer after.peers n x (find_more (is_peer n) x side.peers (joined ∷ []) e)) (is_same_server side.servers) stands.queues.at)
+        made_at);
+    last = last_are next.ids g.ids;
+    forms = g.forms ∙ stands.queues.forms;
   }
+
+  module _ (small : p < 2 ^ 32) (c' : Contents)
+      (put : c' ≡ with_records ((setting (OfPeer p) (peer_text kind.Plain standing.Enabled tables) ∷ map queue_change (made_queues p core)) ++ map (last_change p) (made_ids core)) c) where
+    abbrev changes : List Change
+    changes = (setting (OfPeer p) (peer_text kind.Plain standing.Enabled tables) ∷ map queue_change (made_queues p core)) ++ map (last_change p) (made_ids core)
+
+    abbrev front : List Put
+    front = record { key = OfPeer p; value = Some (peer_text kind.Plain standing.Enabled tables) } ∷ map put_of (made_queues p core)
+
+    abbrev puts : List Put
+    puts = front ++ map (last_put p) (made_ids core)
+
+    abbrev words : Peer → List ℕ
+    words x = peer_text x.kind x.standing x.tables
+
+    others : (k : RecordKey) → IsSmall k → IsAside puts k → (o : Option (List ℕ)) → Owes side k o → Owes after k o
+    others k few aside = owes_requeued side after.peers after.queues side.forms k
+        (λ q e. ap (option_map words) (find_aside (is_peer q) joined side.peers (ne_eqb p q (λ same. aside.0 (ap OfPeer same ∙ sym e)))))
+
+    puts_are : map change_of puts ≡ changes
+    puts_are = map-append change_of front (map (last_put p) (made_ids core))
+        ∙ (λ i. (setting (OfPeer p) (peer_text kind.Plain standing.Enabled tables) ∷ queues_put (made_queues p core) i) ++ lasts_put p (made_ids core) i)
+
+    records_stand : RecordsStand c' after
+    records_stand = records_put c c' side after puts
+        (ap (λ (d : Contents). d.records) put ∙ (records_records changes c ∙ ap (λ (xs : List Change). changed xs c.records) (sym puts_are))) stands.records
+        (All_append (IsDue after) front (map (last_put p) (made_ids core)) (record { small = small; owed = sym (ap (option_map words) found) }, queues_due after (made_queues p core)) (lasts_due after p (made_ids core)))
+        others
+
+    pub peer_stands : (next : Storage) → IsGiven p core next → Recorded c' next → Stands own c' (with_new_peer p tables (record core { queues = next })) after
+    peer_stands next g recorded =
+        stands_requeued own c c' core side (core.peers ++ new_peer_line p tables ∷ []) next after.peers after.queues side.forms stands
+        (ap (λ (d : Contents). d.files) put ∙ files_records changes c)
+        (ap (λ (d : Contents). d.stands wal) put ∙ ap (λ (f : List ℕ → Bool). f wal) (stands_records changes c))
+        (queues_stand next g) recorded records_stand
 
 -- ---- the event
 
@@ -254,31 +292,37 @@ no_peer (Some x) e = absurd (true≢false e)
 module _ (way : Route) (own : Cluster) (c : Contents) (core : ClusterCore) (p : ℕ) (tables : List (List ℕ)) (m : Machine) (stands : Stands own c core (of own m))
     (none : None ≡ refusal_of (peer_plan way own p kind.Plain tables m)) where
   -- there is no such peer, and the event comes to its put
-  free : find (is_peer p) (of own m).peers ≡ None
+  absent_peer : find (is_peer p) (of own m).peers ≡ None
   unfolding peer_plan
-  free = no_peer (find (is_peer p) (of own m).peers) (passes (peer_plan way own p kind.Plain tables m) m (sym none)).0
+  absent_peer = no_peer (find (is_peer p) (of own m).peers) (passes (peer_plan way own p kind.Plain tables m) m (sym none)).0
 
   rest_is : (said : Reply) → told (peer_plan way own p kind.Plain tables m) said m
       ≡ told (Asks (site own call.Put ∷ []) m (Ends reply.Done (with own (side_after p tables (of own m)) m))) said m
   unfolding peer_plan
   rest_is said = (passes (peer_plan way own p kind.Plain tables m) m (sym none)).1.1.1.1.1.1 said
 
-  pub peer_faulted : (n : ℕ) (c' : Contents) → c' ≡ c → Does own (told (peer_plan way own p kind.Plain tables m) (reply.StoreFault own call.Put n) m) m c' core (reply.StoreFault own call.Put n)
-  peer_faulted n c' is =
-      does_nothing own _ m c' core (reply.StoreFault own call.Put n)
+  pub peer_faulted : (n : ℕ) (c' : Contents) (next : Storage) → c' ≡ c → next ≡ core.queues
+      → Does own (told (peer_plan way own p kind.Plain tables m) (reply.StoreFault own call.Put n) m) m c' (record core { queues = next }) (reply.StoreFault own call.Put n)
+  peer_faulted n c' next is queues =
+      does_nothing own _ m c' (record core { queues = next }) (reply.StoreFault own call.Put n)
       (rest_is (reply.StoreFault own call.Put n) ∙ failed_one own call.Put n m (Ends reply.Done (with own (side_after p tables (of own m)) m)) m)
-      (subst (λ (d : Contents). Stands own d core (of own m)) (sym is) stands)
+      (subst (λ (x : Storage). Stands own c' (record core { queues = x }) (of own m)) (sym queues) (subst (λ (d : Contents). Stands own d core (of own m)) (sym is) stands))
 
-  -- servers are found by their numbers
-  known_servers : Reached way m → is_in way own ≡ true → AllByRecursion (λ (v : Server). find (is_server v.number) (of own m).servers ≡ Some v) (of own m).servers
-  known_servers reached inside =
-      All_weaker (λ v i. subst (λ (k : Machine). In v (of own k).servers → find (is_server v.number) (of own k).servers ≡ Some v) reached.leads
-      (server_is_found way reached.steps reached.legal own inside v) i) (of own m).servers (all_in (of own m).servers)
-
-  pub peer_made : (c' : Contents) (core' : ClusterCore) → Reached way m → is_in way own ≡ true → p < 2 ^ 32
-      → c' ≡ with_records (setting (OfPeer p) (peer_text kind.Plain standing.Enabled tables) ∷ []) c → core' ≡ with_added p tables core
+  pub peer_made : Reached way m → is_in way own ≡ true → p < 2 ^ 32 → (with_it : List Change) (queues : List QueueRecord) (ids : List LastId)
+      → with_it ≡ setting (OfPeer p) (peer_text kind.Plain standing.Enabled tables) ∷ [] → queues ≡ made_queues p core → ids ≡ made_ids core → (c' : Contents) (next : Storage) (core' : ClusterCore)
+      → next.queues ≡ core.queues.queues ++ queues → ArePushed p ids core.queues.ids next.ids → next.forms ≡ core.queues.forms
+      → c' ≡ with_records ((with_it ++ map queue_change queues) ++ map (last_change p) ids) c
+      → (Recorded c core.queues → AreApart (core.queues.queues ++ queues) → AreBeside with_it → Recorded c' next) → core' ≡ with_new_peer p tables (record core { queues = next })
       → Does own (told (peer_plan way own p kind.Plain tables m) reply.Done m) m c' core' reply.Done
-  peer_made c' core' reached inside small put made =
+  peer_made reached inside small with_it queues ids changes_are queues_are ids_are c' next core' all push forms put recorded made =
+      let given_is : IsGiven p core next = record {
+        queues = all ∙ ap (λ (qs : List QueueRecord). core.queues.queues ++ qs) queues_are;
+        ids = subst (λ (xs : List LastId). ArePushed p xs core.queues.ids next.ids) ids_are push;
+        forms = forms;
+      } in
+      let apart = subst (λ (qs : List QueueRecord). AreApart (core.queues.queues ++ qs)) (sym queues_are) (apart_then own c core m stands reached inside p tables absent_peer) in
+      let now = recorded stands.recorded apart (subst AreBeside (sym changes_are) (peer_beside (decimal p), tt)) in
+      let puts = put ∙ (λ i. with_records ((changes_are i ++ map queue_change (queues_are i)) ++ map (last_change p) (ids_are i)) c) in
       does_with own _ m (side_after p tables (of own m)) c' core' reply.Done (rest_is reply.Done)
       (subst (λ (k : ClusterCore). Stands own c' k (side_after p tables (of own m))) (sym made)
-      (peer_stands own c c' core (of own m) p tables stands small free (known_servers reached inside) put))
+      (peer_stands own c core m stands reached inside p tables absent_peer small c' puts next given_is now))

@@ -1,2 +1,5 @@
 pub mod Effects
+pub mod Following
+pub mod Migrating
+pub mod Standings
 pub mod Tables

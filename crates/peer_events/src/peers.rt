@@ -1,4 +1,4 @@
-ghost use Rattle.std.specs.Prelude.{◌≡◌, map, true, IfOk};
+ghost use Rattle.std.specs.Prelude.{◌≡◌, map, true, IfOk, OnOk};
 ghost use Rattle.rep_types.specs.declared.event.Event.TheVariants as event;
 ghost use Rattle.rep_types.specs.declared.state.Kind.TheVariants as kind;
 ghost use Rattle.rep_model.specs.PeerEvents.{peer_plan};
@@ -9,13 +9,16 @@ ghost use Rattle.rep_model.specs.declared.machine.Machine.{Machine};
 ghost use Rattle.cluster_core.specs.Memory.{map_of, peer_line};
 ghost use Rattle.cluster_core.specs.Stands.{Stands};
 ghost use Rattle.cluster_core.specs.Does.{Standing, Reached, Answers, Counts, FaultTold};
+ghost use Rattle.peer_events.specs.Effects.{with_new_peer};
 
-use crate::additions::add;
+use crate::queues::{last_commits, new_queues};
 use crate::records::peer_record;
 use crate::tables::{lack_families, lack_tables};
-use cluster_core::{ClusterCore, CoreError, Stored, find_peer, put_records};
+use cluster_core::{ClusterCore, CoreError, PeerLine, find_peer};
+use queue_storage::QueueError;
 use region_meta::RegionMap;
-use rep_types::{Call, Names, PeerId, Refusal, Reply};
+use rep_model::Standing as PeerStanding;
+use rep_types::{Call, Kind, Memory, Names, PeerId, Refusal, Reply};
 use rep_vault::Vault;
 use std::alloc::Global;
 
@@ -34,6 +37,18 @@ fn refusal(core: &ClusterCore, beside: &RegionMap, peer: PeerId, tables: &Names)
         return Some(Refusal::NoFamily);
     }
     None
+}
+
+// The peer stands behind the others, and has its queues already.
+fn push(core: &mut ClusterCore, peer: PeerId, tables: Names) -> Result<(), Memory>
+    ensures { OnOk result (core.new ≡ with_new_peer peer tables core.old) }
+{
+    core.peers.push(PeerLine {
+        number: peer,
+        kind: Kind::Plain,
+        tables,
+        standing: PeerStanding::Enabled,
+    })
 }
 
 /// Adds a peer that is enabled and keeps no order, with a queue for each server that lives or isn't sealed. It starts behind
@@ -57,19 +72,38 @@ pub fn peer<V: Vault>(
         Some(why) => return Ok(Reply::Refused(why)),
         None => {}
     }
-    let Ok(change) = peer_record(alloc, peer, &tables) else {
+    let Ok(changes) = peer_record(
+        alloc,
+        peer,
+        Kind::Plain,
+        PeerStanding::Enabled,
+        tables.as_slice(),
+    ) else {
         return Err(CoreError::Memory { changed: false });
     };
-    match put_records(own, &[change]) {
-        Stored::Done => match add(core, peer, tables) {
+    let Ok(queues) = new_queues(
+        alloc,
+        &core.queues,
+        peer,
+        &core.index.shelves,
+        &core.stations,
+    ) else {
+        return Err(CoreError::Memory { changed: false });
+    };
+    let Ok(ids) = last_commits(alloc, core.map.regions(), &core.index) else {
+        return Err(CoreError::Memory { changed: false });
+    };
+    match core.queues.add_peer(own, peer, &queues, &ids, changes) {
+        Ok(()) => match push(core, peer, tables) {
             Ok(()) => Ok(Reply::Done),
             Err(_) => Err(CoreError::Memory { changed: true }),
         },
-        Stored::Fault(count) => Ok(Reply::StoreFault {
+        Err(QueueError::NoQueue) => unreachable!(),
+        Err(QueueError::StoreFault { count }) => Ok(Reply::StoreFault {
             store: core.own,
             call: Call::Put,
             count,
         }),
-        Stored::NoMemory => Err(CoreError::Memory { changed: false }),
+        Err(QueueError::Memory) => Err(CoreError::Memory { changed: false }),
     }
 }

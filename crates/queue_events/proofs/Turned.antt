@@ -1,70 +1,44 @@
 -- A queue has another owner or another flight: memory and a store stand for the side in which it has.
-use Rattle.std.proofs.Common.{ℕ, ◌≡◌, List, map, Option, Some, refl, ap, sym, ◌∙◌, subst, IfSome, MatchOption}
-use Rattle.std.specs.List.{AllByRecursion}
+use Rattle.std.proofs.Common.{ℕ, ◌≡◌, List, Option, Some, refl, subst, MatchOption}
 use Rattle.rep_types.specs.declared.ids.Cluster.{Cluster}
 use Rattle.rep_vault.specs.Contents.{Contents}
 use Rattle.wal_roll.specs.Log.{wal}
 use Rattle.queue_storage.specs.declared.record.QueueRecord.{QueueRecord}
-use Rattle.queue_storage.specs.Ids.{last_pushed}
 use Rattle.queue_storage.specs.Queues.{Storage, is_queue as is_record, queue_at, flies}
 use Rattle.queue_storage.specs.Recorded.{Recorded}
 use Rattle.rep_model.specs.Keyed.{replace}
-use Rattle.rep_model.specs.State.{is_queue}
 use Rattle.rep_model.specs.declared.machine.Side.{Side}
 use Rattle.rep_model.specs.declared.machine.Queue.{Queue}
-use Rattle.rep_laws.proofs.Finding.{All_replaced}
-use Rattle.rep_laws.proofs.Lists.{All_found, All_weaker}
+use Rattle.rep_laws.proofs.Lists.{All_found}
 use Rattle.cluster_core.specs.declared.parts.ClusterCore.{ClusterCore}
-use Rattle.cluster_core.specs.Queues.{queue_of as as_queue, IsAt, QueuesStand}
+use Rattle.cluster_core.specs.Queues.{IsAt}
 use Rattle.cluster_core.specs.Stands.{RecordsStand, Stands}
 use Rattle.cluster_core.proofs.RecordsPut.{records_kept}
-use Rattle.cluster_core.proofs.Requeued.{map_replace, record_numbers, requeued, owes_requeued, stands_requeued}
+use Rattle.cluster_core.proofs.Replaced.{with_record, replaced_side, stands_replaced}
+use Rattle.cluster_core.proofs.Requeued.{owes_requeued}
+pub use Rattle.cluster_core.proofs.Replaced.{said_of}
 
 -- the queue of this record has this owner and this flight, and the others are as they were
 abbrev pub turned_queues : QueueRecord → ℕ → Option ℕ → List Queue → List Queue
-turned_queues q owner flight queues = replace (is_queue q.peer q.server) (as_queue (record q { owner = owner; flight = flight })) queues
+turned_queues q owner flight queues = with_record (record q { owner = owner; flight = flight }) queues
 
 abbrev pub turned_side : QueueRecord → ℕ → Option ℕ → Side → Side
-turned_side q owner flight side = requeued side.peers (turned_queues q owner flight side.queues) side.forms side
+turned_side q owner flight side = replaced_side (record q { owner = owner; flight = flight }) side
 
--- a queue's place doesn't know the other queues, nor its owner and its flight
-same_place : (side : Side) (queues : List Queue) (q : QueueRecord) (owner : ℕ) (flight : Option ℕ) → IsAt side q
-    → IsAt (requeued side.peers queues side.forms side) (record q { owner = owner; flight = flight })
-same_place side queues q owner flight a =
+-- a queue's place doesn't know its owner and its flight
+same_place : (side : Side) (q : QueueRecord) (owner : ℕ) (flight : Option ℕ) → IsAt side q → IsAt side (record q { owner = owner; flight = flight })
+same_place side q owner flight a =
     record { peer = a.peer; known = a.known; server = a.server; there = a.there; within = a.within; queued = a.queued; starts = a.starts; stands = a.stands; log = a.log }
 
 module _ (own : Cluster) (c : Contents) (core : ClusterCore) (side : Side) (k : Stands own c core side) (p s : ℕ)
     (q : QueueRecord) (found : queue_at p s core.queues.queues ≡ Some q) (owner : ℕ) (flight : Option ℕ) where
-  queues_turned : (next : Storage) → next.queues ≡ replace (is_record p s) (record q { owner = owner; flight = flight }) core.queues.queues
-      → next.ids ≡ core.queues.ids → next.forms ≡ core.queues.forms → QueuesStand (record core { queues = next }) (turned_side q owner flight side)
-  queues_turned next queues ids forms =
-      let new : QueueRecord = record q { owner = owner; flight = flight } in
-      let n = record_numbers p s core.queues.queues q found in
-      let here : IsAt (turned_side q owner flight side) new =
-      same_place side (turned_queues q owner flight side.queues) q owner flight (All_found (IsAt side) (is_record p s) core.queues.queues q found k.queues.at) in
-      let others : AllByRecursion (IsAt (turned_side q owner flight side)) core.queues.queues =
-      All_weaker (λ r a. same_place side (turned_queues q owner flight side.queues) r r.owner r.flight a) core.queues.queues k.queues.at in
-      record {
-        peers = k.queues.peers;
-        plain = k.queues.plain;
-        queues = ap (map as_queue) queues
-            ∙ (map_replace as_queue (is_queue p s) new core.queues.queues
-            ∙ (ap (replace (is_queue p s) (as_queue new)) k.queues.queues
-            ∙ (ap (λ i. replace (is_queue i s) (as_queue new) side.queues) (sym n.0) ∙ ap (λ i. replace (is_queue q.peer i) (as_queue new) side.queues) (sym n.1))));
-        at = subst (AllByRecursion (IsAt (turned_side q owner flight side))) (sym queues) (All_replaced (IsAt (turned_side q owner flight side)) (is_record p s) new core.queues.queues here others);
-        last = λ i r. ap (last_pushed i r) ids ∙ k.queues.last i r;
-        forms = forms ∙ k.queues.forms;
-      }
-
   pub turned_stands : (c' : Contents) (next : Storage) → c'.files ≡ c.files → c'.stands wal ≡ c.stands wal
       → next.queues ≡ replace (is_record p s) (record q { owner = owner; flight = flight }) core.queues.queues → next.ids ≡ core.queues.ids → next.forms ≡ core.queues.forms
       → Recorded c' next → RecordsStand c' (turned_side q owner flight side) → Stands own c' (record core { queues = next }) (turned_side q owner flight side)
   turned_stands c' next files folder queues ids forms recorded records =
-      stands_requeued own c c' core side core.peers next side.peers (turned_queues q owner flight side.queues) side.forms k files folder (queues_turned next queues ids forms) recorded records
-
--- what is said where there is a queue
-pub said_of : (o : Option QueueRecord) (q : QueueRecord) (P : QueueRecord → Type 0) → o ≡ Some q → IfSome o P → P q
-said_of o q P e h = subst (λ (w : Option QueueRecord). IfSome w P) e h
+      let here : IsAt side (record q { owner = owner; flight = flight }) =
+      same_place side q owner flight (All_found (IsAt side) (is_record p s) core.queues.queues q found k.queues.at) in
+      stands_replaced core side k.queues p s q (record q { owner = owner; flight = flight }) found refl refl here own c c' next k files folder queues ids forms recorded records
 
 -- a queue has another flight, which no record tells
 pub record IsFlown (p s : ℕ) (flight : Option ℕ) (old next : Storage) : Type 0 where

@@ -1,5 +1,5 @@
 -- A table and its first region.
-use Rattle.std.proofs.Common.{ℕ, suc, ◌+◌, ◌<◌, ◌≤◌, ◌^◌, ◌≡◌, ◌==◌, cond, Bool, true, false, List, [], ◌∷◌, ◌++◌, map, find, length, slice_get, Option, Some, None, is_some, refl, ap, sym, ◌∙◌, subst, arith, add-one, eq-eqb, ne_eqb}
+use Rattle.std.proofs.Common.{ℕ, suc, ◌+◌, ◌<◌, ◌≤◌, ◌^◌, ◌≡◌, ◌==◌, Bool, true, false, List, [], ◌∷◌, ◌++◌, map, find, length, slice_get, Option, Some, None, is_some, refl, ap, sym, ◌∙◌, subst, arith, add-one, eq-eqb, ne_eqb}
 use Rattle.std.specs.Fmt.{decimal}
 use Rattle.std.specs.List.{AllByRecursion}
 use Rattle.std.specs.Str.{bytes_eq}
@@ -7,7 +7,6 @@ use Rattle.std.specs.Option.{option_map}
 use Rattle.std.proofs.lemmas.Bool.Decides.{nat_tests}
 use Rattle.std.proofs.lemmas.Bool.{cond-true, cond-false, true≢false}
 use Rattle.std.proofs.lemmas.List.{map-append, length-map}
-use Rattle.std.proofs.lemmas.List.Sums.{sum_by-cons}
 use Rattle.std.proofs.lemmas.Option.{slice_get_past, none-some}
 use Rattle.rep_types.specs.declared.ids.Cluster.{Cluster}
 use Rattle.rep_types.specs.declared.table.Family.{Family}
@@ -35,12 +34,11 @@ use Rattle.rep_model.specs.declared.machine.Machine.{Machine}
 use Rattle.rep_model.specs.declared.machine.Side.{Side}
 use Rattle.rep_model.specs.declared.machine.Table.{Table}
 use Rattle.rep_model.specs.declared.machine.Hosted.{Hosted}
-use Rattle.rep_model.specs.declared.machine.Commit.{Commit}
 use Rattle.rep_model.specs.declared.machine.Written.{Written}
 use Rattle.rep_laws.proofs.Lists.{In, all_in, All_weaker}
 use Rattle.rep_laws.proofs.Finding.{find_first, find_aside}
 use Rattle.rep_laws.proofs.Citing.{passes}
-use Rattle.rep_laws.proofs.CitedMore.{regions_are_known, written_is_known}
+use Rattle.rep_laws.proofs.CitedMore.{written_is_known}
 use Rattle.queue_storage.proofs.Keys.{table_beside, region_beside, barriers_beside}
 use Rattle.cluster_core.specs.declared.parts.ClusterCore.{ClusterCore}
 use Rattle.cluster_core.specs.declared.parts.Trace.{Trace}
@@ -56,6 +54,7 @@ use Rattle.cluster_core.proofs.RecordsAside.{recorded_aside}
 use Rattle.cluster_core.proofs.RecordsPut.{Owes, Put, IsDue, IsAside, change_of, records_put}
 use Rattle.cluster_core.proofs.Simple.{does_with, does_nothing}
 use Rattle.cluster_core.proofs.Staying.{is_same_server, servers_kept, queues_beside}
+use Rattle.cluster_core.proofs.Uncounted.{none_of_region}
 use Rattle.region_events.specs.Effects.{first_trace, no_cells, with_table}
 
 -- the side with the table and its first region
@@ -70,10 +69,6 @@ side_after name families side = record side {
 -- no region has the next number
 next_is_free : (xs : List Hosted) → ((k : ℕ) → find (is_region (suc k)) xs ≡ slice_get xs k) → find (is_region (length xs + 1)) xs ≡ None
 next_is_free xs slots = ap (λ n. find (is_region n) xs) (add-one (length xs)) ∙ (slots (length xs) ∙ slice_get_past xs (length xs) (omega arith))
-
-none_counted : (n : ℕ) (xs : List Commit) → AllByRecursion (λ (x : Commit). (x.region.number == n) ≡ false) xs → commit_count n xs ≡ 0
-none_counted n [] all = refl
-none_counted n (x ∷ xs) all = sum_by-cons (λ (y : Commit). cond (y.region.number == n) 1 0) x xs ∙ (λ i. cond (all.0 i) 1 0 + none_counted n xs all.1 i)
 
 no_edits : (name : List ℕ) (ws : List Written) → AllByRecursion (λ (w : Written). bytes_eq w.edit.table name ≡ false) ws → table_edits name ws ≡ []
 no_edits name [] all = refl
@@ -219,18 +214,6 @@ module _ (own : Cluster) (c : Contents) (core : ClusterCore) (name : List ℕ) (
       (subst (λ (d : Contents). Stands own d core (of own m)) (sym same) stands)
 
   module _ {way : Route} (reached : Reached way m) (inside : is_in way own ≡ true) where
-    -- no commit is of a region that isn't there
-    unused_number : find (is_region (next_region (of own m))) (of own m).regions ≡ None → commit_count (next_region (of own m)) (of own m).commits ≡ 0
-    unused_number none =
-        none_counted (next_region (of own m)) (of own m).commits (All_weaker (λ x i. other x i) (of own m).commits (all_in (of own m).commits))
-      where
-        other : (x : Commit) → In x (of own m).commits → (x.region.number == next_region (of own m)) ≡ false
-        other x i =
-            let known : (h : Hosted) × (find (is_region x.region.number) (of own m).regions ≡ Some h) × (h.region ≡ x.region) =
-            subst (λ (k : Machine). In x (of own k).commits → (h : Hosted) × (find (is_region x.region.number) (of own k).regions ≡ Some h) × (h.region ≡ x.region)) reached.leads
-            (regions_are_known way reached.steps reached.legal own inside x) i in
-            ne_eqb x.region.number (next_region (of own m)) (λ e. none-some known.0 (sym none ∙ (ap (λ k. find (is_region k) (of own m).regions) (sym e) ∙ known.1)))
-
     titled : (w : Written) → In w (of own m).written → is_some (find (is_named w.edit.table) (of own m).tables) ≡ true
     titled w =
         subst (λ (k : Machine). In w (of own k).written → is_some (find (is_named w.edit.table) (of own k).tables) ≡ true) reached.leads (written_is_known way reached.steps reached.legal own inside w)
@@ -250,4 +233,4 @@ module _ (own : Cluster) (c : Contents) (core : ClusterCore) (name : List ℕ) (
         does_with own _ m (side_after name families side) c' core' (reply.Made n)
         (rest_is (reply.Made n) ∙ ap (λ k. answers (reply.Made k) (with own (side_after name families side) m)) (sym number))
         (subst (λ (k : ClusterCore). Stands own c' k (side_after name families side)) (sym made)
-        (table_stands own c c' core side name families stands free next (unused_number next) unwritten few n number put))
+        (table_stands own c c' core side name families stands free next (none_of_region own m inside reached (next_region (of own m)) next) unwritten few n number put))

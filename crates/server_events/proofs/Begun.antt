@@ -1,12 +1,11 @@
 -- A server's next log was made, and perhaps its record was put: memory and the store stand for the state as it was.
-use Rattle.std.proofs.Common.{decimal, ℕ, ◌+◌, ◌<◌, ◌≡◌, ◌==◌, ◌^◌, inl, inr, Bool, false, List, [], ◌∷◌, map, filter, find, Option, Some, None, refl, ap, sym, ◌∙◌, subst, arith, eqb-true, eq-eqb}
-use Rattle.std.specs.Prelude.{IfSome}
+use Rattle.std.proofs.Common.{decimal, ℕ, ◌+◌, ◌<◌, ◌≡◌, ◌==◌, ◌^◌, inl, inr, Bool, false, List, [], ◌∷◌, map, filter, find, Option, Some, refl, ap, sym, ◌∙◌, subst, arith, eqb-true, eq-eqb}
 use Rattle.std.specs.List.{AllByRecursion}
 use Rattle.std.proofs.lemmas.Bool.{cases_eq, cond_both, true≢false}
-use Rattle.std.proofs.lemmas.Option.{same_Some, none-some}
+use Rattle.std.proofs.lemmas.Option.{same_Some}
 use Rattle.rep_types.specs.declared.ids.Cluster.{Cluster}
 use Rattle.rep_vault.specs.declared.store.Change.{Change}
-use Rattle.rep_vault.specs.Contents.{File, empty_file, Contents, set_record, changed, with_records}
+use Rattle.rep_vault.specs.Contents.{File, Contents, set_record, changed, with_records}
 use Rattle.rep_vault.proofs.Frames.{files_records, stands_records, records_records, record_here}
 use Rattle.queue_storage.specs.declared.record.QueueRecord.{QueueRecord}
 use Rattle.queue_storage.specs.Changes.{lists_logs, log_changes}
@@ -33,20 +32,12 @@ use Rattle.cluster_core.specs.Queues.{queue_of, TellsLog, StillTells, IsAt, Queu
 use Rattle.cluster_core.specs.Stands.{is_station, ServerTold, StationStands, StationAt, RecordsStand, Stands}
 use Rattle.cluster_core.specs.Texts.{OfServer, key_text, log_text}
 use Rattle.cluster_core.proofs.Frames.{station_same}
-use Rattle.cluster_core.proofs.RecordsPut.{Put, change_of, records_put, records_kept}
+use Rattle.cluster_core.proofs.RecordsPut.{Put, IsDue, change_of, records_put, records_kept}
 use Rattle.cluster_core.proofs.QueuePuts.{put_of, queues_put, queues_due}
 use Rattle.cluster_core.proofs.Staying.{number_is, recorded_same}
 use Rattle.rep_laws.proofs.Lists.{All_mapped, All_weaker}
 use Rattle.cluster_core.proofs.Synced.{files_apart, host_stands}
-
--- an empty log's file is an empty file
-made_empty : (s l : ℕ) (o : Option File) → IsLog o (new_log s l) → o ≡ Some empty_file
-made_empty s l o k =
-    k.there ∙ ap Some (λ i. record { bytes = (k.holds.bytes ∙ k.holds.tail) i; synced = k.holds.synced i; sealed = k.holds.unsealed i })
-
-fresh_or_empty : (o : Option File) → IsFresh o → IfSome o (λ x. x ≡ empty_file)
-fresh_or_empty None h = tt
-fresh_or_empty (Some x) h = elim h [ inl e ↦ absurd (none-some x (sym e)) | inr e ↦ same_Some x empty_file e ]
+use Rattle.server_events.proofs.NewLogs.{made_empty, fresh_or_empty}
 
 next_is_later : (n : ℕ) → n < n + 1
 next_is_later n = omega arith
@@ -166,7 +157,8 @@ module _ (own : Cluster) (c : Contents) (core : ClusterCore) (side : Side) (s at
       | inr n ↦ station_same c c' side t (find (is_station t) core.stations) (find (is_server t) side.servers) (number_is t side.servers) (λ l. others t l (λ e _. n e)) (stands.servers t)
     ]
 
-    begun : (queues : Storage) → QueuesStand (record core { queues = queues }) side → Recorded c' queues → c'.stands ≡ c.stands → RecordsStand c' side → Stands own c' (record core { queues = queues }) side
+    begun : (queues : Storage) → QueuesStand (record core { queues = queues }) side → Recorded c' queues → c'.stands ≡ c.stands → RecordsStand c' side
+        → Stands own c' (record core { queues = queues }) side
     begun queues stand recorded folders records = record {
       own_is = stands.own_is;
       folder = ap (λ (f : List ℕ → Bool). f wal) folders ∙ stands.folder;
@@ -190,11 +182,15 @@ module _ (own : Cluster) (c : Contents) (core : ClusterCore) (side : Side) (s at
     fresh_made = inr (made_empty s (here.server.log + 1) (mid.files wal (log_name s (here.server.log + 1))) writer.file)
 
     pub log_made : Stands own mid core side
-    log_made = begun sealed mid files_made fresh_made core.queues stands.queues (recorded_same c mid core.queues core.queues frame.records refl stands.recorded) frame.stands (records_kept c mid side side frame.records stands.records (λ k _ o h. h))
+    log_made =
+        begun sealed mid files_made fresh_made core.queues stands.queues (recorded_same c mid core.queues core.queues frame.records refl stands.recorded) frame.stands
+        (records_kept c mid side side frame.records stands.records (λ k _ o h. h))
 
     -- and its record put
-    module _ (c' : Contents) (queues : Storage) (put : c' ≡ with_records (setting (OfServer s) (log_text (here.server.log + 1) false) ∷ log_changes s (here.server.log + 1) core.queues.queues) mid)
-        (are : queues.queues ≡ map (logged s (here.server.log + 1)) core.queues.queues) (ids : queues.ids ≡ core.queues.ids) (forms : queues.forms ≡ core.queues.forms) (recorded : Recorded c' queues) where
+    module _ (c' : Contents) (queues : Storage)
+        (put : c' ≡ with_records (setting (OfServer s) (log_text (here.server.log + 1) false) ∷ log_changes s (here.server.log + 1) core.queues.queues) mid)
+        (are : queues.queues ≡ map (logged s (here.server.log + 1)) core.queues.queues) (ids : queues.ids ≡ core.queues.ids) (forms : queues.forms ≡ core.queues.forms)
+        (recorded : Recorded c' queues) where
       files_are : c'.files ≡ mid.files
       files_are = ap (λ (d : Contents). d.files) put ∙ files_records _ mid
 
@@ -215,7 +211,9 @@ module _ (own : Cluster) (c : Contents) (core : ClusterCore) (side : Side) (s at
 
       puts_are : setting (OfServer s) (log_text (here.server.log + 1) false) ∷ log_changes s (here.server.log + 1) core.queues.queues
           ≡ map change_of (record { key = OfServer s; value = Some (log_text (here.server.log + 1) false) } ∷ map put_of (filter (lists_logs s) (map (logged s (here.server.log + 1)) core.queues.queues)))
-      puts_are = ap (λ (xs : List Change). setting (OfServer s) (log_text (here.server.log + 1) false) ∷ xs) (sym (queues_put (filter (lists_logs s) (map (logged s (here.server.log + 1)) core.queues.queues))))
+      puts_are =
+          ap (λ (xs : List Change). setting (OfServer s) (log_text (here.server.log + 1) false) ∷ xs)
+          (sym (queues_put (filter (lists_logs s) (map (logged s (here.server.log + 1)) core.queues.queues))))
 
       records_are : c'.records ≡ changed (map change_of puts) c.records
       records_are = ap (λ (d : Contents). d.records) put ∙ (records_records _ mid ∙ (λ i. changed (puts_are i) (frame.records i)))
@@ -224,15 +222,22 @@ module _ (own : Cluster) (c : Contents) (core : ClusterCore) (side : Side) (s at
       queues_aside : (qs : List QueueRecord) (f : List ℕ → Option (List ℕ)) → changed (map queue_change qs) f (key_text (OfServer s)) ≡ f (key_text (OfServer s))
       queues_aside qs f = map_aside queue_change qs f (key_text (OfServer s)) (λ q e. (server_beside (decimal s)).queue q.peer q.server (sym e))
 
+      -- the server's record is the one that it may have
+      due_now : IsDue side (record { key = OfServer s; value = Some (log_text (here.server.log + 1) false) })
+      due_now = record {
+        small = small;
+        owed = subst (λ (p : Option Server). ServerTold (Some (log_text (here.server.log + 1) false)) p) (sym here.known) (told_next here.server);
+      }
+
       pub begun_all : IsBegun own c' (record core { queues = queues }) side here.station here.server w s
       begun_all = record {
-        stands = begun sealed c' files_put fresh_put queues (queues_logged core side s here.server here.known here.number queues are ids forms stands.queues) recorded (ap (λ (d : Contents). d.stands) put ∙ (stands_records _ mid ∙ frame.stands))
-            (records_put c c' side side puts records_are stands.records
-            (record { small = small; owed = subst (λ (p : Option Server). ServerTold (Some (log_text (here.server.log + 1) false)) p) (sym here.known) (told_next here.server) }, queues_due side listed) (λ k _ _ o h. h));
+        stands = begun sealed c' files_put fresh_put queues (queues_logged core side s here.server here.known here.number queues are ids forms stands.queues) recorded
+            (ap (λ (d : Contents). d.stands) put ∙ (stands_records _ mid ∙ frame.stands)) (records_put c c' side side puts records_are stands.records (due_now, queues_due side listed) (λ k _ _ o h. h));
         station = station_kept sealed c' files_put fresh_put;
         host = host_kept sealed c' files_put fresh_put;
         writer = record { same = writer.same; file = subst (λ (o : Option File). IsLog o (new_log s (here.server.log + 1))) (same_file s (here.server.log + 1)) writer.file };
         told = ap (λ (d : Contents). d.records (key_text (OfServer s))) put ∙ (ap (λ (f : List ℕ → Option (List ℕ)). f (key_text (OfServer s))) (records_records _ mid)
-            ∙ (queues_aside listed (set_record (key_text (OfServer s)) (Some (log_text (here.server.log + 1) false)) mid.records) ∙ record_here (key_text (OfServer s)) (Some (log_text (here.server.log + 1) false)) mid.records));
+            ∙ (queues_aside listed (set_record (key_text (OfServer s)) (Some (log_text (here.server.log + 1) false)) mid.records)
+            ∙ record_here (key_text (OfServer s)) (Some (log_text (here.server.log + 1) false)) mid.records));
         tells = logged_tell core side s here.server here.known here.number queues are ids forms;
       }

@@ -4,6 +4,7 @@ pub mod Doubted
 pub mod Emptied
 pub mod Ended
 pub mod Losing
+pub mod NewLogs
 pub mod Refused
 pub mod RegionsLost
 pub mod RollBegun

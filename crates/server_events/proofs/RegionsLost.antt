@@ -1,5 +1,5 @@
 -- The regions at a server that died are Lost, at the same server.
-use Rattle.std.proofs.Common.{ℕ, ◌<◌, ◌^◌, ◌≡◌, ◌==◌, List, [], ◌∷◌, map, find, Option, Some, None, refl, ap, sym, ◌∙◌}
+use Rattle.std.proofs.Common.{ℕ, ◌≡◌, ◌==◌, List, [], ◌∷◌, map, find, Option, Some, None, refl, ap, sym, ◌∙◌}
 use Rattle.std.specs.Option.{option_map}
 use Rattle.std.proofs.lemmas.Bool.{cond_both}
 use Rattle.rep_types.specs.declared.ids.Cluster.{Cluster}

@@ -57,16 +57,23 @@ module _ {way : Route} (own : Cluster) (c : Contents) (core : ClusterCore) (s at
           ap (λ (v : LogValue). v.server) writer.same
           ∙ (sym here.number ∙ (sym (ap (λ (v : LogValue). v.server) is_open.host.writer.same) ∙ ap (λ (x : Station). x.host.log.server) (same_Some here.station st (sym here.there ∙ there))))
 
-      module _ (c' : Contents) (queues : Storage) (with : List Change) (text : with ≡ setting (OfServer s) (log_text log false) ∷ []) (put : c' ≡ with_records (with ++ log_changes s log core.queues.queues) mid)
-          (are : queues.queues ≡ map (logged s log) core.queues.queues) (ids : queues.ids ≡ core.queues.ids) (forms : queues.forms ≡ core.queues.forms) (recorded : Recorded mid core.queues → AreBeside with → Recorded c' queues) where
+      module _ (c' : Contents) (queues : Storage) (with : List Change) (text : with ≡ setting (OfServer s) (log_text log false) ∷ [])
+          (put : c' ≡ with_records (with ++ log_changes s log core.queues.queues) mid) (are : queues.queues ≡ map (logged s log) core.queues.queues)
+          (ids : queues.ids ≡ core.queues.ids) (forms : queues.forms ≡ core.queues.forms) (recorded : Recorded mid core.queues → AreBeside with → Recorded c' queues) where
         put_is : c' ≡ with_records (setting (OfServer s) (log_text (here.server.log + 1) false) ∷ log_changes s (here.server.log + 1) core.queues.queues) mid
-        put_is = put ∙ (ap (λ (xs : List Change). with_records (xs ++ log_changes s log core.queues.queues) mid) text ∙ ap (λ n. with_records (setting (OfServer s) (log_text n false) ∷ log_changes s n core.queues.queues) mid) number)
+        put_is =
+            put
+            ∙ (ap (λ (xs : List Change). with_records (xs ++ log_changes s log core.queues.queues) mid) text
+            ∙ ap (λ n. with_records (setting (OfServer s) (log_text n false) ∷ log_changes s n core.queues.queues) mid) number)
 
         now : Recorded c' queues
         now = recorded is_made.recorded (subst AreBeside (sym text) (server_beside (decimal s), tt))
 
         pub is_begun : IsBegun own c' (record core { queues = queues }) (of own m) here.station here.server w s
-        is_begun = begun_all own c core (of own m) s at here stands is_open.sealed small few mid w frame_is writer_is c' queues put_is (are ∙ ap (λ n. map (logged s n) core.queues.queues) number) ids forms now
+        is_begun =
+            begun_all own c core (of own m) s at here stands is_open.sealed small few mid w frame_is writer_is c' queues put_is
+            (are ∙ ap (λ n. map (logged s n) core.queues.queues) number) ids forms now
 
         pub host_stands : (st : Station) → slice_get core.stations at ≡ Some st → HostStands c' st.host
-        host_stands st there = subst (λ (x : Station). HostStands c' x.host) (same_Some here.station st (sym here.there ∙ there)) (log_of (of own m).commits here.server, is_begun.host)
+        host_stands st there =
+            subst (λ (x : Station). HostStands c' x.host) (same_Some here.station st (sym here.there ∙ there)) (log_of (of own m).commits here.server, is_begun.host)

@@ -16,12 +16,10 @@ use Rattle.rep_model.specs.Row.{Row, answers, fault_among, or_fault, site}
 use Rattle.rep_model.specs.Plan.{Plan, Refuses, Asks, Ends, told}
 use Rattle.rep_model.specs.Copies.{make_copy}
 use Rattle.rep_model.specs.Commits.{settled}
-use Rattle.rep_model.specs.Peers.{is_dual_in}
 use Rattle.rep_model.specs.Tickets.{doubt_pending, doubtful, is_doubtful, newly}
 use Rattle.rep_model.specs.LogEvents.{is_dual, is_fenced, kept_of, next_log, copy_site, roll_plan}
 use Rattle.rep_model.specs.declared.faults.Site.{Site}
 use Rattle.rep_model.specs.declared.machine.Machine.{Machine}
-use Rattle.rep_model.specs.declared.machine.Link.{Link}
 use Rattle.rep_model.specs.declared.machine.Side.{Side}
 use Rattle.rep_model.specs.declared.machine.Server.{Server}
 use Rattle.rep_model.specs.declared.machine.Pending.{Pending}
@@ -40,16 +38,9 @@ use Rattle.cluster_core.proofs.Settling.{left_with, of_left, beside_left, flight
 use Rattle.cluster_core.proofs.Simple.{does_nothing}
 use Rattle.cluster_core.proofs.Telling.{told_from}
 use Rattle.server_events.proofs.Doubted.{doubtful_stay, doubtful_are}
-
-not_dual : (own : Cluster) (m : Machine) → (of own m).link ≡ unlinked → is_dual own m ≡ false
-not_dual own m e = ap (λ (l : Link). is_dual_in l.state l.phase) e
+use Rattle.server_events.proofs.NewLogs.{not_dual, put_is_later}
 
 -- the later calls aren't the first one, and they are those that are told
-put_is_later : (own : Cluster) (n : ℕ) → fault_among (site own call.Create ∷ []) (reply.StoreFault own call.Put n) ≡ None
-put_is_later A n = refl
-put_is_later B n = refl
-put_is_later C n = refl
-
 seal_is_later : (own : Cluster) (n : ℕ) → fault_among (site own call.Create ∷ []) (reply.StoreFault own call.Seal n) ≡ None
 seal_is_later A n = refl
 seal_is_later B n = refl

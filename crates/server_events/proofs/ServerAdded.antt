@@ -1,12 +1,10 @@
 -- A new server and its first log.
 use Rattle.std.proofs.Common.{decimal, ℕ, zero, suc, ◌<◌, ◌≤◌, ◌^◌, ◌≡◌, ◌==◌, ◌⊎◌, ◌&&◌, inl, inr, cond, not, Bool, true, false, List, [], ◌∷◌, ◌++◌, Result, Ok, map, find, filter, drop, position, Option, Some, None, refl, ap, sym, ◌∙◌, subst, arith, eq-eqb, ne_eqb}
 use Rattle.std.specs.List.{AllByRecursion}
-use Rattle.std.specs.Prelude.{IfSome}
 use Rattle.std.proofs.lemmas.Bool.{cond-true, cond-false, cond_both, cases_eq, and_left}
 use Rattle.std.proofs.lemmas.List.{map-append}
-use Rattle.std.proofs.lemmas.Option.{same_Some, none-some}
+use Rattle.std.proofs.lemmas.Option.{none-some}
 use Rattle.rep_types.specs.declared.ids.Cluster.{Cluster}
-use Rattle.rep_types.specs.declared.ids.Cluster.TheVariants.{A, B, C}
 use Rattle.rep_types.specs.declared.state.Place.{Place}
 use Rattle.rep_types.specs.declared.state.QueueForms.{QueueForms}
 use Rattle.rep_types.specs.declared.state.Call.{Call}
@@ -14,7 +12,7 @@ use Rattle.rep_types.specs.declared.state.Call.TheVariants as call
 use Rattle.rep_types.specs.declared.refusal.Refusal.TheVariants as refusal
 use Rattle.rep_types.specs.declared.reply.Reply.TheVariants as reply
 use Rattle.rep_vault.specs.declared.store.Change.{Change}
-use Rattle.rep_vault.specs.Contents.{File, empty_file, Contents, changed, with_records}
+use Rattle.rep_vault.specs.Contents.{File, Contents, changed, with_records}
 use Rattle.rep_vault.proofs.Frames.{files_records, stands_records, records_records}
 use Rattle.queue_storage.specs.declared.record.QueueRecord.{QueueRecord}
 use Rattle.queue_storage.specs.Queues.{Storage, AreApart, new_queue as new_record}
@@ -23,20 +21,18 @@ use Rattle.queue_storage.specs.Texts.{queue_change}
 use Rattle.queue_storage.proofs.Keys.{server_beside}
 use Rattle.wal_roll.specs.Log.{Log, LogValue, wal, log_name, writer_of, IsLog, IsWriter}
 use Rattle.wal_roll.specs.Steps.{MayCreate, OnlyFile, new_log}
-use Rattle.region_server.specs.Host.{HostValue}
 use Rattle.rep_model.specs.Keyed.{given}
-use Rattle.rep_model.specs.State.{Route, of, with, is_server, is_peer, server_of, unlinked}
+use Rattle.rep_model.specs.State.{Route, of, with, is_server, is_peer, server_of}
 use Rattle.rep_model.specs.Words.{is_in}
 use Rattle.rep_model.specs.Commits.{log_commits, pending_count, stands_in}
 use Rattle.rep_model.specs.Queues.{is_queued, queue}
-use Rattle.rep_model.specs.Peers.{is_removed, is_dual_in}
+use Rattle.rep_model.specs.Peers.{is_removed}
 use Rattle.rep_model.specs.Row.{answers, fault_among, site}
 use Rattle.rep_model.specs.Plan.{told}
 use Rattle.rep_model.specs.Path.{refusal_of}
 use Rattle.rep_model.specs.LogEvents.{is_dual, new_server, new_queue, server_queues, server_plan}
 use Rattle.rep_model.specs.declared.machine.Machine.{Machine}
 use Rattle.rep_model.specs.declared.machine.Side.{Side}
-use Rattle.rep_model.specs.declared.machine.Link.{Link}
 use Rattle.rep_model.specs.declared.machine.Hosted.{Hosted}
 use Rattle.rep_model.specs.declared.machine.Server.{Server}
 use Rattle.rep_model.specs.declared.machine.Peer.{Peer}
@@ -57,7 +53,7 @@ use Rattle.cluster_core.specs.Entries.{server_commits, entry_of}
 use Rattle.cluster_core.specs.Logs.{IsFresh, log_of}
 use Rattle.cluster_core.specs.Memory.{trace_of, server_at, pending_at, shelf_of, kept_after, peer_line}
 use Rattle.cluster_core.specs.QueuePlaces.{Divides, IsPlace}
-use Rattle.cluster_core.specs.Queues.{queue_of, IsAt}
+use Rattle.cluster_core.specs.Queues.{queue_of, IsAt, QueuesStand}
 use Rattle.cluster_core.specs.Stands.{IsSmall, is_station, ServerTold, StationStands, StationAt, Stands}
 use Rattle.cluster_core.specs.Does.{Does, Reached}
 use Rattle.cluster_core.proofs.Answering.{faulted_one, plan_refused}
@@ -70,20 +66,13 @@ use Rattle.cluster_core.proofs.QueuePuts.{put_of, queues_put, queues_due}
 use Rattle.cluster_core.proofs.Queued.{fronts_of}
 use Rattle.cluster_core.proofs.Requeued.{apart_of_unique}
 use Rattle.server_events.specs.Effects.{first_place, server_records, new_shelf, new_station, with_station, with_queues}
+use Rattle.server_events.specs.NextLog.{new_host}
+use Rattle.server_events.proofs.NewLogs.{made_empty, fresh_or_empty, not_dual, put_is_later}
 
 pub same_ok : {T E : Type 0} (x y : T) → ◌≡◌ {A = Result T E} (Ok x) (Ok y) → x ≡ y
 same_ok x y e = cc
 
 -- ---- the log's file
-
--- an empty log's file is an empty file
-made_empty : (s l : ℕ) (o : Option File) → IsLog o (new_log s l) → o ≡ Some empty_file
-made_empty s l o k =
-    k.there ∙ ap Some (λ i. record { bytes = (k.holds.bytes ∙ k.holds.tail) i; synced = k.holds.synced i; sealed = k.holds.unsealed i })
-
-fresh_or_empty : (o : Option File) → IsFresh o → IfSome o (λ x. x ≡ empty_file)
-fresh_or_empty None h = tt
-fresh_or_empty (Some x) h = elim h [ inl e ↦ absurd (none-some x (sym e)) | inr e ↦ same_Some x empty_file e ]
 
 module _ (s : ℕ) (small : s < 2 ^ 32) (c c' : Contents) (frame : OnlyFile wal (log_name s 1) c c') where
   -- the logs of other servers, and other logs of this one
@@ -189,6 +178,13 @@ queues_of_records f s (p ∷ ps) = by (is_removed p.standing) (queues_of_records
     by true e = e
     by false e = ap (λ qs. new_queue f p.number s ∷ qs) e
 
+-- memory's queues with those of a new server are the state's with them
+queues_are : (core : ClusterCore) (side : Side) (s : ℕ) → QueuesStand core side
+    → map queue_of (core.queues.queues ++ server_records core.queues.forms s core.peers) ≡ side.queues ++ server_queues side.forms s side.peers
+queues_are core side s stand =
+    map-append queue_of core.queues.queues (server_records core.queues.forms s core.peers)
+    ∙ ((λ i. stand.queues i ++ map queue_of (server_records (stand.forms i) s (stand.peers i))) ∙ ap (λ (qs : List Queue). side.queues ++ qs) (queues_of_records side.forms s side.peers))
+
 -- where there are no frames any place of the log divides them
 nothing_divides : (n : ℕ) (x : Place) → Divides [] n x
 nothing_divides zero x = record { before = tt; behind = tt }
@@ -230,12 +226,10 @@ records_at side form s (p ∷ ps) known there none empty =
 abbrev pub side_after : ℕ → Side → Side
 side_after s side = record side { servers = side.servers ++ new_server s false ∷ []; queues = side.queues ++ server_queues side.forms s side.peers }
 
-abbrev new_host : LogValue → HostValue
-new_host w = record { log = w; pending = []; tickets = [] }
-
 module _ (own : Cluster) (c mid c' : Contents) (core : ClusterCore) (side : Side) (s : ℕ) (small : s < 2 ^ 32) (stands : Stands own c core side)
     (no_station : find (is_station s) core.stations ≡ None) (no_server : find (is_server s) side.servers ≡ None) (w : LogValue)
-    (frame : OnlyFile wal (log_name s 1) c mid) (writer : IsWriter mid w (new_log s 1)) (put : c' ≡ with_records (setting (OfServer s) (log_text 1 false) ∷ map queue_change (server_records core.queues.forms s core.peers)) mid)
+    (frame : OnlyFile wal (log_name s 1) c mid) (writer : IsWriter mid w (new_log s 1))
+    (put : c' ≡ with_records (setting (OfServer s) (log_text 1 false) ∷ map queue_change (server_records core.queues.forms s core.peers)) mid)
     (none : AllByRecursion (λ (x : Commit). (x.server == s) ≡ false) side.commits) (known : AllByRecursion (λ (p : Peer). find (is_peer p.number) side.peers ≡ Some p) side.peers) where
   abbrev after : Side
   after = side_after s side
@@ -301,12 +295,9 @@ module _ (own : Cluster) (c mid c' : Contents) (core : ClusterCore) (side : Side
   abbrev puts : List Put
   puts = record { key = OfServer s; value = Some (log_text 1 false) } ∷ map put_of (server_records core.queues.forms s core.peers)
 
-  puts_are : map change_of (record { key = OfServer s; value = Some (log_text 1 false) } ∷ map put_of (server_records core.queues.forms s core.peers)) ≡ setting (OfServer s) (log_text 1 false) ∷ map queue_change (server_records core.queues.forms s core.peers)
+  puts_are : map change_of (record { key = OfServer s; value = Some (log_text 1 false) } ∷ map put_of (server_records core.queues.forms s core.peers))
+      ≡ setting (OfServer s) (log_text 1 false) ∷ map queue_change (server_records core.queues.forms s core.peers)
   puts_are = ap (λ (xs : List Change). setting (OfServer s) (log_text 1 false) ∷ xs) (queues_put (server_records core.queues.forms s core.peers))
-
-  pub queues_are : map queue_of (core.queues.queues ++ server_records core.queues.forms s core.peers) ≡ side.queues ++ server_queues side.forms s side.peers
-  queues_are = map-append queue_of core.queues.queues (server_records core.queues.forms s core.peers)
-      ∙ ((λ i. stands.queues.queues i ++ map queue_of (server_records (stands.queues.forms i) s (stands.queues.peers i))) ∙ ap (λ (qs : List Queue). side.queues ++ qs) (queues_of_records side.forms s side.peers))
 
   server_more : (n : ℕ) (v : Server) → find (is_server n) side.servers ≡ Some v → SameServer after.servers n v
   server_more n v e = is_same_server after.servers n v (find_more (is_server n) v side.servers (joined ∷ []) e)
@@ -321,7 +312,8 @@ module _ (own : Cluster) (c mid c' : Contents) (core : ClusterCore) (side : Side
   others (OfLast p n) few aside o h = tt
   others OfForms few aside o h = tt
 
-  pub server_stands : Recorded c' (record core.queues { queues = core.queues.queues ++ server_records core.queues.forms s core.peers }) → Stands own c' (with_station s (new_host w) (with_queues s core)) after
+  pub server_stands : Recorded c' (record core.queues { queues = core.queues.queues ++ server_records core.queues.forms s core.peers })
+      → Stands own c' (with_station s (new_host w) (with_queues s core)) after
   server_stands recorded = record {
     own_is = stands.own_is;
     folder = ap (λ (d : Contents). d.stands wal) put ∙ (ap (λ (f : List ℕ → Bool). f wal) (stands_records _ mid) ∙ (ap (λ (f : List ℕ → Bool). f wal) frame.stands ∙ stands.folder));
@@ -337,8 +329,9 @@ module _ (own : Cluster) (c mid c' : Contents) (core : ClusterCore) (side : Side
     queues = record {
       peers = stands.queues.peers;
       plain = stands.queues.plain;
-      queues = queues_are;
-      at = All_append (IsAt after) core.queues.queues (server_records core.queues.forms s core.peers) (queues_kept side after core.queues.queues refl (is_same_peer side.peers) server_more stands.queues.at)
+      queues = queues_are core side s stands.queues;
+      at = All_append (IsAt after) core.queues.queues (server_records core.queues.forms s core.peers)
+          (queues_kept side after core.queues.queues refl (is_same_peer side.peers) server_more stands.queues.at)
           (subst (λ (ps : List PeerLine). AllByRecursion (IsAt after) (server_records core.queues.forms s ps)) (sym stands.queues.peers)
           (records_at after core.queues.forms s side.peers known found_server (no_queue s side.commits none) (no_commits s side.commits none)));
       last = stands.queues.last;
@@ -346,21 +339,13 @@ module _ (own : Cluster) (c mid c' : Contents) (core : ClusterCore) (side : Side
     };
     recorded = recorded;
     records = records_put c c' side after puts (ap (λ (d : Contents). d.records) put ∙ (records_records _ mid ∙ ((λ i. changed (sym puts_are i) (frame.records i))))) stands.records
-        (record { small = small; owed = subst (λ (p : Option Server). ServerTold (Some (log_text 1 false)) p) (sym found_server) (inl refl) }, queues_due after (server_records core.queues.forms s core.peers)) (λ k few aside. others k few aside);
+        (record { small = small; owed = subst (λ (p : Option Server). ServerTold (Some (log_text 1 false)) p) (sym found_server) (inl refl) }, queues_due after (server_records core.queues.forms s core.peers))
+        (λ k few aside. others k few aside);
     framed = stands.framed;
     link = stands.link;
   }
 
 -- ---- the row
-
-not_dual : (own : Cluster) (m : Machine) → (of own m).link ≡ unlinked → is_dual own m ≡ false
-not_dual own m e = ap (λ (l : Link). is_dual_in l.state l.phase) e
-
--- a failed put isn't a failed create
-put_is_later : (own : Cluster) (n : ℕ) → fault_among (site own call.Create ∷ []) (reply.StoreFault own call.Put n) ≡ None
-put_is_later A n = refl
-put_is_later B n = refl
-put_is_later C n = refl
 
 module _ (way : Route) (own : Cluster) (s : ℕ) (m : Machine) where
   row_refused : (v : Server) → server_of own s m ≡ Some v → refusal_of (server_plan way own s m) ≡ Some refusal.Exists
@@ -416,10 +401,7 @@ module _ (way : Route) (own : Cluster) (c : Contents) (core : ClusterCore) (s : 
     apart_then pair reached =
         let fronts = fronts_of own pair m reached in
         let unique = (served_side (of own m).forms s (λ i. number_absent s (of own m).servers none i) fronts).unique in
-        let all : map queue_of (core.queues.queues ++ server_records core.queues.forms s core.peers) ≡ (of own m).queues ++ server_queues (of own m).forms s (of own m).peers =
-        map-append queue_of core.queues.queues (server_records core.queues.forms s core.peers)
-        ∙ ((λ i. stands.queues.queues i ++ map queue_of (server_records (stands.queues.forms i) s (stands.queues.peers i))) ∙ ap (λ (qs : List Queue). (of own m).queues ++ qs) (queues_of_records (of own m).forms s (of own m).peers)) in
-        apart_of_unique (core.queues.queues ++ server_records core.queues.forms s core.peers) (subst UniqueQueues (sym all) unique)
+        apart_of_unique (core.queues.queues ++ server_records core.queues.forms s core.peers) (subst UniqueQueues (sym (queues_are core (of own m) s stands.queues)) unique)
 
     pub server_done : is_in way own ≡ true → Reached way m → s < 2 ^ 32 → None ≡ position (is_station s) core.stations → (mid c' : Contents) (w : LogValue) (queues : Storage) (core' : ClusterCore)
         → OnlyFile wal (log_name s 1) c mid → IsWriter mid w (new_log s 1) → (with : List Change) (made : List QueueRecord) → with ≡ setting (OfServer s) (log_text 1 false) ∷ [] → made ≡ server_records core.queues.forms s core.peers
@@ -434,7 +416,8 @@ module _ (way : Route) (own : Cluster) (c : Contents) (core : ClusterCore) (s : 
         let apart = subst (λ (qs : List QueueRecord). AreApart (core.queues.queues ++ qs)) (sym made_is) (apart_then pair reached) in
         let beside = subst AreBeside (sym with_is) (server_beside (decimal s), tt) in
         let now : Recorded c' next = subst (Recorded c') is (recorded before.recorded apart beside) in
-        let puts : c' ≡ with_records (setting (OfServer s) (log_text 1 false) ∷ map queue_change (server_records core.queues.forms s core.peers)) mid = put ∙ (λ i. with_records (with_is i ++ map queue_change (made_is i)) mid) in
+        let puts : c' ≡ with_records (setting (OfServer s) (log_text 1 false) ∷ map queue_change (server_records core.queues.forms s core.peers)) mid =
+        put ∙ (λ i. with_records (with_is i ++ map queue_change (made_is i)) mid) in
         does_with own (told (server_plan way own s m) reply.Done m) m (side_after s (of own m)) c' core' reply.Done (row_done way own s m none (not_dual own m stands.link))
         (subst (λ (k : ClusterCore). Stands own c' k (side_after s (of own m))) (sym (made_core ∙ ap (λ (st : Storage). with_station s (new_host w) (record core { queues = st })) is))
         (server_stands own c mid c' core (of own m) s small stands no_station none w frame writer puts (unused pair reached) (known_peers pair reached) now))

@@ -60,7 +60,8 @@ fn close(stations: &mut Items<Station>, at: usize)
 }
 
 /// Ends the log of the station at this place, by one call of the store, and goes on with the server's next log, which is
-/// empty and of which the server's record and those of its queues tell already. What the seal kept is committed, and nothing is pending then.
+/// empty and of which the server's record and those of its queues tell already. What the seal kept is committed, and
+/// nothing is pending then.
 pub fn end_log<V: Vault>(
     core: &mut ClusterCore,
     alloc: Global,

@@ -5,6 +5,7 @@ mod crashing;
 mod ending;
 mod keeping;
 mod queues;
+mod records;
 mod rolling;
 mod sealing;
 mod servers;

@@ -1,5 +1,5 @@
 // A roll: a server goes on with its next log.
-ghost use Rattle.std.specs.Prelude.{◌≡◌, ◌+◌, ◌<◌, ◌^◌, ◌∷◌, [], true, false, Some, IfOk, IfSome, MatchResult, length, slice_get};
+ghost use Rattle.std.specs.Prelude.{◌≡◌, ◌+◌, ◌<◌, ◌^◌, true, Some, IfOk, IfSome, MatchResult, length, slice_get};
 ghost use Rattle.rep_types.specs.declared.event.Event.TheVariants as event;
 ghost use Rattle.rep_types.specs.declared.reply.Reply.{Reply};
 ghost use Rattle.rep_vault.specs.Contents.{Contents};
@@ -9,8 +9,6 @@ ghost use Rattle.rep_model.specs.Path.{refusal_of};
 ghost use Rattle.rep_model.specs.LogEvents.{roll_plan};
 ghost use Rattle.rep_model.specs.declared.machine.Machine.{Machine};
 ghost use Rattle.cluster_core.specs.declared.parts.Station.{Station};
-ghost use Rattle.cluster_core.specs.Texts.{OfServer, log_text};
-ghost use Rattle.cluster_core.specs.Changes.{setting};
 ghost use Rattle.cluster_core.specs.Lookups.{ServersStand};
 ghost use Rattle.cluster_core.specs.Stands.{Stands};
 ghost use Rattle.cluster_core.specs.Does.{Reached, Standing, Answers, FaultTold, Counts};
@@ -18,12 +16,11 @@ ghost use Rattle.server_events.specs.Ready.{MayRoll};
 
 use crate::ending::end_log;
 use crate::keeping::station_here;
-use cluster_core::{
-    ClusterCore, CommitError, CoreError, Station, current_log, server_change, station_at,
-};
+use crate::records::log_record;
+use cluster_core::{ClusterCore, CommitError, CoreError, Station, current_log, station_at};
 use queue_storage::QueueError;
-use rep_types::{Call, Items, Memory, Refusal, Reply, ServerId};
-use rep_vault::{Change, Vault};
+use rep_types::{Call, Items, Refusal, Reply, ServerId};
+use rep_vault::Vault;
 use std::alloc::Global;
 use wal_roll::{LogError, LogWriter};
 
@@ -62,21 +59,10 @@ fn next_number(stations: &Items<Station>, at: usize) -> Option<u32>
     current_log(stations, at).number.checked_add(1)
 }
 
-// The record of a server that goes on with this log. The server's number is small.
-fn next_record(alloc: Global, server: ServerId, log: u32) -> Result<Vec<Change>, Memory>
-    ensures text { IfOk result (λ changes. changes.items ≡ setting (OfServer server) (log_text log false) ∷ []) }
-    ensures small { server < 2 ^ 32 }
-{
-    let _number = server.number();
-    let mut changes = Vec::new(alloc);
-    changes.push(server_change(alloc, server, log, false)?)?;
-    Ok(changes)
-}
-
-/// Makes a live server's next log, puts its record and those of its queues that list logs, and seals the log before. What that seal kept of a broken log's pending
-/// entries is committed, the others are dropped, and all of their tickets are doubtful. A log that isn't broken has nothing
-/// pending. A call that fails leaves the server at its log, and what the calls before it made is as if it weren't there.
-/// Where the log's number is the greatest of 32 bits, the answer is Memory.
+/// Makes a live server's next log, puts its record and those of its queues that list logs, and seals the log before. What
+/// that seal kept of a broken log's pending entries is committed, the others are dropped, and all of their tickets are
+/// doubtful. A log that isn't broken has nothing pending. A call that fails leaves the server at its log, and what the calls
+/// before it made is as if it weren't there. Where the log's number is the greatest of 32 bits, the answer is Memory.
 pub fn roll<V: Vault>(
     core: &mut ClusterCore,
     alloc: Global,
@@ -96,7 +82,7 @@ pub fn roll<V: Vault>(
     let Some(number) = next_number(&core.stations, at) else {
         return Err(CoreError::Memory { changed: false });
     };
-    let Ok(changes) = next_record(alloc, server, number) else {
+    let Ok(changes) = log_record(alloc, server, number) else {
         return Err(CoreError::Memory { changed: false });
     };
     let store = core.own;

@@ -1,33 +1,21 @@
-ghost use Rattle.std.specs.Prelude.{◌≡◌, ◌<◌, ◌^◌, ◌∷◌, [], true, false, OnOk, IfOk};
+ghost use Rattle.std.specs.Prelude.{◌≡◌, true, OnOk, IfOk};
 ghost use Rattle.rep_types.specs.declared.event.Event.TheVariants as event;
 ghost use Rattle.rep_model.specs.State.{Route, of};
 ghost use Rattle.rep_model.specs.Words.{is_in};
 ghost use Rattle.rep_model.specs.declared.machine.Machine.{Machine};
-ghost use Rattle.cluster_core.specs.Texts.{OfServer, log_text};
-ghost use Rattle.cluster_core.specs.Changes.{setting};
 ghost use Rattle.cluster_core.specs.Stands.{Stands};
 ghost use Rattle.cluster_core.specs.Does.{Standing, Reached, Answers, Counts, FaultTold};
 ghost use Rattle.server_events.specs.Effects.{with_station};
 
 use crate::queues::server_queues;
-use cluster_core::{ClusterCore, CoreError, Shelf, Station, server_change, station_at};
+use crate::records::log_record;
+use cluster_core::{ClusterCore, CoreError, Shelf, Station, station_at};
 use queue_storage::QueueError;
 use region_server::Host;
 use rep_types::{Call, Items, Memory, Refusal, Reply, ServerId};
-use rep_vault::{Change, Vault};
+use rep_vault::Vault;
 use std::alloc::Global;
 use wal_roll::{LogError, LogWriter};
-
-// The record of a new server, whose number is small.
-fn first_record(alloc: Global, server: ServerId) -> Result<Vec<Change>, Memory>
-    ensures text { IfOk result (λ changes. changes.items ≡ setting (OfServer server) (log_text 1 false) ∷ []) }
-    ensures small { server < 2 ^ 32 }
-{
-    let _number = server.number();
-    let mut changes = Vec::new(alloc);
-    changes.push(server_change(alloc, server, 1, false)?)?;
-    Ok(changes)
-}
 
 // Puts the server into memory, which has its queues already.
 fn add(core: &mut ClusterCore, alloc: Global, server: ServerId, host: Host) -> Result<(), Memory>
@@ -45,7 +33,7 @@ fn add(core: &mut ClusterCore, alloc: Global, server: ServerId, host: Host) -> R
 }
 
 /// Makes a server with its first log, and a queue of it for each peer that isn't removed. The log's file stays where the
-/// record isn't put, and then it is as if it weren't there.
+/// records, those of the server and of its queues, aren't put, and then it is as if it weren't there.
 pub fn server<V: Vault>(
     core: &mut ClusterCore,
     alloc: Global,
@@ -62,7 +50,7 @@ pub fn server<V: Vault>(
         Some(_) => return Ok(Reply::Refused(Refusal::Exists)),
         None => {}
     }
-    let Ok(changes) = first_record(alloc, server) else {
+    let Ok(changes) = log_record(alloc, server, 1) else {
         return Err(CoreError::Memory { changed: false });
     };
     let Ok(queues) = server_queues(alloc, &core.queues, server, &core.peers) else {

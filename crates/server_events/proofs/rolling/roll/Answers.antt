@@ -53,7 +53,7 @@ returns-in-Err-StoreFault-add_log-clause-does g c = λ way m reached pair stands
     (subst (λ (q : Storage). Does core.own (told (roll_plan way core.own c.args.server fault m) fault m) m (g.V.Vault.contents c.add_log.new.vault) (record core { queues = q }) fault) (sym failed.err)
     (roll_unput way core.own c.args.server m k.here.server k.here.known k.live k.settled (g.V.Vault.contents c.add_log.new.vault) core c.in-Err-StoreFault-add_log.count
     (subst (λ (d : Contents). Stands core.own d core (of core.own m)) (sym failed.stays)
-    (is_made core.own old core c.args.server c.in-Ok.at m pair reached stands k.here k.live c.in-Some.number next c.in-Ok-next_record.ensures.small c.in-Some.ensures.fits mid c.in-Ok-create.next c.in-Ok-create.ensures.frame c.in-Ok-create.ensures.does))))
+    (is_made core.own old core c.args.server c.in-Ok.at m pair reached stands k.here k.live c.in-Some.number next c.in-Ok-log_record.ensures.small c.in-Some.ensures.fits mid c.in-Ok-create.next c.in-Ok-create.ensures.frame c.in-Ok-create.ensures.does))))
 
 pub end_log-requires-clause-stands : goal.end_log-requires-clause-stands
 end_log-requires-clause-stands g c =
@@ -63,8 +63,8 @@ end_log-requires-clause-stands g c =
     let r = c.requires in
     let k = c.in-Ok.ensures.state old r.1 r.4.servers in
     let next = c.in-Some.ensures.next k.here.station k.here.there in
-    host_stands core.own old core c.args.server c.in-Ok.at r.1 r.3 r.2 r.4 k.here k.live c.in-Some.number next c.in-Ok-next_record.ensures.small c.in-Some.ensures.fits mid c.in-Ok-create.next c.in-Ok-create.ensures.frame c.in-Ok-create.ensures.does
-    (g.V.Vault.contents c.add_log.new.vault) c.add_log.new.self c.in-Ok-next_record.changes.items c.in-Ok-next_record.ensures.text c.in-Ok-add_log.ensures.records c.in-Ok-add_log.ensures.queues c.in-Ok-add_log.ensures.ids
+    host_stands core.own old core c.args.server c.in-Ok.at r.1 r.3 r.2 r.4 k.here k.live c.in-Some.number next c.in-Ok-log_record.ensures.small c.in-Some.ensures.fits mid c.in-Ok-create.next c.in-Ok-create.ensures.frame c.in-Ok-create.ensures.does
+    (g.V.Vault.contents c.add_log.new.vault) c.add_log.new.self c.in-Ok-log_record.changes.items c.in-Ok-log_record.ensures.text c.in-Ok-add_log.ensures.records c.in-Ok-add_log.ensures.queues c.in-Ok-add_log.ensures.ids
     c.in-Ok-add_log.ensures.forms c.in-Ok-add_log.ensures.recorded
 
 pub end_log-requires-clause-own : goal.end_log-requires-clause-own
@@ -75,7 +75,7 @@ end_log-requires-clause-own g c =
     let r = c.requires in
     let k = c.in-Ok.ensures.state old r.1 r.4.servers in
     let next = c.in-Some.ensures.next k.here.station k.here.there in
-    same_server core.own old core c.args.server c.in-Ok.at r.1 r.3 r.2 r.4 k.here k.live c.in-Some.number next c.in-Ok-next_record.ensures.small c.in-Some.ensures.fits mid c.in-Ok-create.next c.in-Ok-create.ensures.frame c.in-Ok-create.ensures.does
+    same_server core.own old core c.args.server c.in-Ok.at r.1 r.3 r.2 r.4 k.here k.live c.in-Some.number next c.in-Ok-log_record.ensures.small c.in-Some.ensures.fits mid c.in-Ok-create.next c.in-Ok-create.ensures.frame c.in-Ok-create.ensures.does
 
 pub returns-in-Err-StoreFault-end_log-clause-does : goal.returns-in-Err-StoreFault-end_log-clause-does
 returns-in-Err-StoreFault-end_log-clause-does g c = λ way m reached pair stands.
@@ -88,8 +88,8 @@ returns-in-Err-StoreFault-end_log-clause-does g c = λ way m reached pair stands
     let logged : ClusterCore = record core { queues = c.add_log.new.self } in
     let k = c.in-Ok.ensures.state old m stands.servers in
     let next = c.in-Some.ensures.next k.here.station k.here.there in
-    let b = is_begun core.own old core s c.in-Ok.at m pair reached stands k.here k.live c.in-Some.number next c.in-Ok-next_record.ensures.small c.in-Some.ensures.fits mid c.in-Ok-create.next c.in-Ok-create.ensures.frame c.in-Ok-create.ensures.does
-    put c.add_log.new.self c.in-Ok-next_record.changes.items c.in-Ok-next_record.ensures.text done.records done.queues done.ids done.forms done.recorded in
+    let b = is_begun core.own old core s c.in-Ok.at m pair reached stands k.here k.live c.in-Some.number next c.in-Ok-log_record.ensures.small c.in-Some.ensures.fits mid c.in-Ok-create.next c.in-Ok-create.ensures.frame c.in-Ok-create.ensures.does
+    put c.add_log.new.self c.in-Ok-log_record.changes.items c.in-Ok-log_record.ensures.text done.records done.queues done.ids done.forms done.recorded in
     let here : HasStation put (of core.own m) core.stations s c.in-Ok.at =
     record { server = k.here.server; known = k.here.known; number = k.here.number; station = k.here.station; there = k.here.there; first = k.here.first; found = k.here.found; stands = b.station } in
     let open_now = is_open core.own old core s c.in-Ok.at m pair reached stands k.here k.live in
@@ -111,8 +111,8 @@ returns-in-Ok-end_log-clause-does g c = λ way m reached pair stands.
     let logged : ClusterCore = record core { queues = c.add_log.new.self } in
     let k = c.in-Ok.ensures.state old m stands.servers in
     let next = c.in-Some.ensures.next k.here.station k.here.there in
-    let b = is_begun core.own old core s c.in-Ok.at m pair reached stands k.here k.live c.in-Some.number next c.in-Ok-next_record.ensures.small c.in-Some.ensures.fits mid c.in-Ok-create.next c.in-Ok-create.ensures.frame c.in-Ok-create.ensures.does
-    put c.add_log.new.self c.in-Ok-next_record.changes.items c.in-Ok-next_record.ensures.text done.records done.queues done.ids done.forms done.recorded in
+    let b = is_begun core.own old core s c.in-Ok.at m pair reached stands k.here k.live c.in-Some.number next c.in-Ok-log_record.ensures.small c.in-Some.ensures.fits mid c.in-Ok-create.next c.in-Ok-create.ensures.frame c.in-Ok-create.ensures.does
+    put c.add_log.new.self c.in-Ok-log_record.changes.items c.in-Ok-log_record.ensures.text done.records done.queues done.ids done.forms done.recorded in
     let here : HasStation put (of core.own m) core.stations s c.in-Ok.at =
     record { server = k.here.server; known = k.here.known; number = k.here.number; station = k.here.station; there = k.here.there; first = k.here.first; found = k.here.found; stands = b.station } in
     let open_now = is_open core.own old core s c.in-Ok.at m pair reached stands k.here k.live in

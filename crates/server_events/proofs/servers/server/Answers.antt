@@ -1,6 +1,5 @@
-use Rattle.std.proofs.Common.{[], ◌∷◌, ap, sym, subst, ◌∙◌}
-use Rattle.rep_vault.specs.declared.store.Change.{Change}
-use Rattle.rep_vault.specs.Contents.{Contents, with_records}
+use Rattle.std.proofs.Common.{ap, sym, subst, ◌∙◌}
+use Rattle.rep_vault.specs.Contents.{Contents}
 use Rattle.region_server.specs.Host.{HostValue}
 use Rattle.rep_types.specs.declared.state.Call.TheVariants as call
 use Rattle.rep_types.specs.declared.reply.Reply.TheVariants as reply
