@@ -1,10 +1,10 @@
 -- A flush keeps the cells of a store over a vault.
-use Rattle.std.proofs.Common.{◌≡◌, ℕ, ◌<◌, ◌^◌, Bool, true, false, List, [], ◌∷◌, ◌++◌, length, filter, Some, None, All, Result, Ok, Err, refl, ap, sym, ◌∙◌}
+use Rattle.std.proofs.Common.{◌≡◌, ℕ, ◌<◌, ◌^◌, Bool, true, false, List, [], ◌∷◌, length, filter, Some, None, All, Result, Ok, Err, refl, ap, sym, ◌∙◌}
 use Rattle.std.specs.Prelude.{◌||◌, OnOk}
 use Rattle.std.specs.List.{list_any}
 use Rattle.std.proofs.lemmas.List.Folds.{list_any-append}
 use Rattle.std.proofs.lemmas.List.Elements.{All-head, All-tail}
-use Rattle.rep_vault.specs.Contents.{File, Contents}
+use Rattle.rep_vault.specs.Contents.{Contents}
 use Rattle.rep_vault.specs.Calls.{IsFree}
 use Rattle.wal_roll.specs.Steps.{OnlyFile}
 use Rattle.store_file.specs.declared.cell.RunCell.{RunCell}
@@ -18,7 +18,7 @@ use Rattle.cell_store.specs.declared.named.NamedRun.{NamedRun}
 use Rattle.cell_store.specs.Cells.{cells_told, file_cells, named_cells, any_named, any_cell, IsThere, StoreValue}
 use Rattle.cell_store.specs.Writing.{all_rows, flushed}
 
-or-false : (a : Bool) → (a || false) ≡ a
+pub or-false : (a : Bool) → (a || false) ≡ a
 or-false true = refl
 or-false false = refl
 
@@ -31,6 +31,13 @@ or_comm false false = refl
 all_within : (cs : List RunCell) → filter (is_within all_rows) cs ≡ cs
 all_within [] = refl
 all_within (c ∷ cs) = ap (λ xs. c ∷ xs) (all_within cs)
+
+-- a new run has the cells that were written
+pub written_back : (after : Contents) (name : List ℕ) (cells : List RunCell) → after.files run name ≡ Some (whole_file (run_spelling cells)) → are_in_order cells ≡ true → All IsTypedCell cells
+    → All (λ (x : RunCell). IsShort x.kind) cells → length cells < 2 ^ 64 → named_cells after (record { name = name; range = all_rows }) ≡ cells
+written_back after name cells written order typed short few =
+    let back : file_cells (after.files run name) ≡ cells = ap file_cells written ∙ ap cells_told (run_back cells order typed short few) in
+    ap (filter (is_within all_rows)) back ∙ all_within cells
 
 module _ (c after : Contents) (name : List ℕ) (frame : OnlyFile run name c after) (free : IsFree c run name) where
   -- a run that stood isn't the new one
@@ -49,8 +56,7 @@ module _ (c after : Contents) (name : List ℕ) (frame : OnlyFile run name c aft
       → All (λ (x : RunCell). IsShort x.kind) s.memory → length s.memory < 2 ^ 64 → any_cell after (flushed name s) test ≡ any_cell c s test
   flush_keeps s test written there order typed short few =
       let new : NamedRun = record { name = name; range = all_rows } in
-      let back : file_cells (after.files run name) ≡ s.memory = ap file_cells written ∙ ap cells_told (run_back s.memory order typed short few) in
-      let whole : named_cells after new ≡ s.memory = ap (filter (is_within all_rows)) back ∙ all_within s.memory in
+      let whole : named_cells after new ≡ s.memory = written_back after name s.memory written order typed short few in
       list_any-append (λ r. list_any test (named_cells after r)) s.runs (new ∷ [])
       ∙ ap (λ b. b || (list_any test (named_cells after new) || false)) (runs-same test s.runs there)
       ∙ ap (λ b. any_named c s.runs test || b) (or-false (list_any test (named_cells after new)) ∙ ap (list_any test) whole)

@@ -26,7 +26,7 @@ agree_from (c ∷ cs) ds h =
     let parts = all_among (λ x. (d : RunCell) → Among ds d → run_order x d ≡ Equal → x ≡ d) c cs h in
     (agrees c ds parts.0, agree_from cs ds parts.1)
 
-or-lift : (a b c d : Bool) → (a ≡ true → c ≡ true) → (b ≡ true → d ≡ true) → (a || b) ≡ true → (c || d) ≡ true
+pub or-lift : (a b c d : Bool) → (a ≡ true → c ≡ true) → (b ≡ true → d ≡ true) → (a || b) ≡ true → (c || d) ≡ true
 or-lift true b c d f g h = ap (λ x. x || d) (f refl)
 or-lift false b c d f g h = second-true c d (g h)
 

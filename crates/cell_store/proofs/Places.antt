@@ -18,7 +18,7 @@ use Rattle.cell_store.specs.Steps.{placed}
 above : (c d : RunCell) → run_order c d ≡ Less → run_order d c ≡ Greater
 above c d l = run_total.antisymm d c ∙ ap ordering_reverse l
 
-below : (c d : RunCell) → run_order c d ≡ Greater → run_order d c ≡ Less
+pub below : (c d : RunCell) → run_order c d ≡ Greater → run_order d c ≡ Less
 below c d g = run_total.antisymm d c ∙ ap ordering_reverse g
 
 placed-behind : (b n : RunCell) (cs : List RunCell) → run_order b n ≡ Less → AllBehind b cs → AllBehind b (placed n cs)
@@ -129,11 +129,11 @@ place_absent n cs (Err at) order bound found =
     let parts = found (searchable n cs (rises cs order)) in
     placed-absent n cs at bound (λ k d h. parts.0 k d (omega arith) h) parts.1
 
-or-first : (a b : Bool) → a ≡ true → (a || b) ≡ true
+pub or-first : (a b : Bool) → a ≡ true → (a || b) ≡ true
 or-first true b h = refl
 or-first false b h = absurd (cc)
 
-or-second : (a b : Bool) → b ≡ true → (a || b) ≡ true
+pub or-second : (a b : Bool) → b ≡ true → (a || b) ≡ true
 or-second true b h = refl
 or-second false b h = h
 
@@ -141,10 +141,10 @@ or-second false b h = h
 abbrev pub Among : List RunCell → RunCell → Type 0
 Among cs c = Holds (λ test. list_any test cs) c
 
-among-head : (c : RunCell) (cs : List RunCell) → Among (c ∷ cs) c
+pub among-head : (c : RunCell) (cs : List RunCell) → Among (c ∷ cs) c
 among-head c cs = λ test t. or-first (test c) (list_any test cs) t
 
-among-later : (c d : RunCell) (cs : List RunCell) → Among cs d → Among (c ∷ cs) d
+pub among-later : (c d : RunCell) (cs : List RunCell) → Among cs d → Among (c ∷ cs) d
 among-later c d cs a = λ test t. or-second (test c) (list_any test cs) (a test t)
 
 pub agrees : (n : RunCell) (cs : List RunCell) → ((d : RunCell) → Among cs d → run_order n d ≡ Equal → n ≡ d) → AgreesWith n cs

@@ -1,4 +1,5 @@
 pub mod Cells
+pub mod Compaction
 pub mod Reading
 pub mod Steps
 pub mod Writing

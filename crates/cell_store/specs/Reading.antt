@@ -6,6 +6,9 @@ use Rattle.store_file.specs.declared.cell.RunCell.{RunCell}
 use Rattle.store_file.specs.Order.{are_in_order}
 use Rattle.run_cells.specs.Outdone.{shown}
 
+abbrev pub every_row : List ℕ → Bool
+every_row row = true
+
 -- of the cells told by tests, those of wanted rows, in order
 pub record AreWanted (wanted : List ℕ → Bool) (any : (RunCell → Bool) → Bool) (all : List RunCell) : Type 0 where
   pub in_order : are_in_order all ≡ true

@@ -1,10 +1,10 @@
 // The cells of wanted rows, of memory and of runs.
-ghost use Rattle.std.specs.Prelude.{◌≡◌, true, IfOk, IfErr, All};
+ghost use Rattle.std.specs.Prelude.{◌≡◌, true, IfOk, IfErr, OnOk, All};
 ghost use Rattle.store_file.specs.Order.{are_in_order};
 ghost use Rattle.store_file.specs.Stored.{IsStopped, Tells};
 ghost use Rattle.cell_store.specs.Cells.{named_cells, any_cell, AreApart, IsThere};
 ghost use Rattle.cell_store.specs.Reading.{AreWanted};
-ghost use Rattle.cell_store.specs.Steps.{of_rows};
+ghost use Rattle.cell_store.specs.Steps.{AreHeld, of_rows};
 
 use crate::NamedRun;
 use crate::rows::Rows;
@@ -44,6 +44,7 @@ fn read_rows<R: Rows, V: Vault>(
     requires { IsThere (V.contents vault.old) run.now }
     ensures does { IfOk result (λ part. part ≡ of_rows (R.wants rows.now) (named_cells (V.contents vault.old) run.now)) }
     ensures order { IfOk result (λ part. are_in_order part ≡ true) }
+    ensures held { OnOk result (AreHeld (V.contents vault.old) run.now) }
     ensures stopped { IfErr result IsStopped }
     ensures kept { V.contents vault.new ≡ V.contents vault.old }
     ensures tells { Tells (V.tally vault.old) (V.tally vault.new) result }
@@ -65,6 +66,7 @@ pub fn gather<R: Rows, V: Vault>(
     requires there { All (IsThere (V.contents vault.old)) runs.now }
     requires apart { AreApart (any_cell (V.contents vault.old) (record { memory = memory.now; runs = runs.now })) }
     ensures does { IfOk result (AreWanted (R.wants rows.now) (any_cell (V.contents vault.old) (record { memory = memory.now; runs = runs.now }))) }
+    ensures held { OnOk result (All (AreHeld (V.contents vault.old)) runs.now) }
     ensures stopped { IfErr result IsStopped }
     ensures kept { V.contents vault.new ≡ V.contents vault.old }
     ensures tells { Tells (V.tally vault.old) (V.tally vault.new) result }

@@ -1,7 +1,8 @@
-// Rows that are asked for: one, or a range of them.
+// Rows that are asked for: one, a range of them, or all.
 ghost use Rattle.std.specs.Prelude.{ℕ, ◌≡◌, Bool, List};
 ghost use Rattle.std.specs.Str.{bytes_eq};
 ghost use Rattle.rep_types.specs.Range.{range_holds};
+ghost use Rattle.cell_store.specs.Reading.{every_row};
 
 use rep_types::{Key, KeyRange};
 
@@ -26,5 +27,15 @@ impl Rows for KeyRange {
 
     fn want(&self, row: &Key) -> bool {
         self.holds(row)
+    }
+}
+
+pub struct EveryRow;
+
+impl Rows for EveryRow {
+    ghost wants = { λ _. every_row };
+
+    fn want(&self, _row: &Key) -> bool {
+        true
     }
 }

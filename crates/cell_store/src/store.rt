@@ -8,10 +8,12 @@ ghost use Rattle.store_file.specs.Spelling.{IsShort, IsTypedCell};
 ghost use Rattle.store_file.specs.Stored.{run, IsStopped, Tells, WritesRun};
 ghost use Rattle.wal_roll.specs.Steps.{OnlyFile};
 ghost use Rattle.cell_store.specs.Cells.{any_cell, any_new, AreApart, IsThere};
+ghost use Rattle.cell_store.specs.Compaction.{IsCompacted, Refuses, ShowAlike};
 ghost use Rattle.cell_store.specs.Reading.{Shows};
 ghost use Rattle.cell_store.specs.Writing.{flushed};
 
 use crate::NamedRun;
+use crate::compacting::{survivors, write_survivors};
 use crate::gathering::gather;
 use crate::placing::{add_all, edit_cells};
 use rep_types::{Edit, Key, KeyRange, Memory, Rank, Text, Views};
@@ -131,12 +133,9 @@ impl CellStore {
         ensures frame { OnlyFile run name (V.contents vault.old) (V.contents vault.new) }
         ensures tells { Tells (V.tally vault.old) (V.tally vault.new) result }
     {
-        let Ok(range) = KeyRange::new(None, None) else {
-            unreachable!()
-        };
         make_room(&mut self.runs)?;
         write_run(alloc, vault, name.as_str(), &self.cells)?;
-        let _ = self.runs.push(NamedRun { name, range });
+        let _ = self.runs.push(NamedRun::whole(name));
         self.cells = Vec::new(alloc);
         Ok(())
     }
@@ -160,5 +159,30 @@ impl CellStore {
         ensures tells { Tells (V.tally vault.old) (V.tally vault.new) result }
     {
         self.write_memory(alloc, vault, name)
+    }
+
+    /// Writes those cells of the runs that count among them as one new run, and names it alone; memory stays. Where there is none, no
+    /// file is written and no run named. Each run is read once. A delete stays, since a put that it hides may stand in memory or come
+    /// later. Where it fails, memory and names stay; after a fault, or for want of memory, the file may stand, whole or in part.
+    pub fn compact<V: Vault>(
+        &mut self,
+        alloc: Global,
+        vault: &mut V,
+        name: Text,
+    ) -> Result<(), RunError>
+        requires there { All (IsThere (V.contents vault.old)) self.old.runs }
+        requires apart { AreApart (any_cell (V.contents vault.old) self.old) }
+        ensures does { OnOk result (IsCompacted name (V.contents vault.old) (V.contents vault.new) self.old self.new) }
+        ensures err { OnErr result (self.new ≡ self.old) }
+        ensures refused { IfErr result (Refuses name (V.contents vault.old) (V.contents vault.new)) }
+        ensures frame { OnlyFile run name (V.contents vault.old) (V.contents vault.new) }
+        ensures kept { OnOk result (ShowAlike (any_cell (V.contents vault.old) self.old) (any_cell (V.contents vault.new) self.new)) }
+        ensures there { OnOk result (All (IsThere (V.contents vault.new)) self.new.runs) }
+        ensures apart { OnOk result (AreApart (any_cell (V.contents vault.new) self.new)) }
+        ensures tells { Tells (V.tally vault.old) (V.tally vault.new) result }
+    {
+        let kept = survivors(alloc, vault, &self.runs)?;
+        self.runs = write_survivors(alloc, vault, name, kept.as_slice())?;
+        Ok(())
     }
 }

@@ -1,6 +1,6 @@
 -- Cells in order: what a pass over them sees of a cell before it and behind it.
-use Rattle.std.proofs.Common.{◌≡◌, ℕ, ◌-◌, suc, Bool, true, false, cond, List, [], ◌∷◌, ◌++◌, length, reverse, Option, Some, None, refl, ap, sym, ◌∙◌, arith}
-use Rattle.std.specs.Prelude.{◌&&◌, ◌||◌, slice_get, find}
+use Rattle.std.proofs.Common.{◌≡◌, ℕ, Bool, true, false, cond, List, [], ◌∷◌, ◌++◌, reverse, Option, Some, None, refl, ap, sym, ◌∙◌}
+use Rattle.std.specs.Prelude.{◌&&◌, ◌||◌, find}
 use Rattle.std.specs.declared.cmp.Ordering.TheVariants.{Less}
 use Rattle.std.specs.List.{list_any, take_while}
 use Rattle.std.specs.Ordering.{is_lt}
@@ -12,6 +12,7 @@ use Rattle.rep_types.specs.declared.cell.CellKind.TheVariants.{Put, Erase}
 use Rattle.store_file.specs.declared.cell.RunCell.{RunCell}
 use Rattle.store_file.specs.Order.{run_order, are_behind, are_in_order}
 use Rattle.store_file.specs.Run.{last_of}
+use Rattle.store_file.proofs.Ordered.{last-more}
 use Rattle.run_cells.specs.Outdone.{is_at, is_twin, is_delete, outdone_by, is_outdone}
 use Rattle.run_cells.specs.Steps.{has_place}
 use Rattle.run_cells.proofs.Order.{run_total, lt-Less, both-true, column_between, twin_between, by_kind, put_by_earlier, delete_by_earlier, put_by_later, delete_by_later, not_itself}
@@ -85,11 +86,6 @@ or_absorb false b h = refl
 or-false : (a : Bool) → (a || false) ≡ a
 or-false true = refl
 or-false false = refl
-
-pub last-more : (d e : RunCell) (es : List RunCell) → last_of (d ∷ e ∷ es) ≡ last_of (e ∷ es)
-last-more d e es =
-    let n : length (d ∷ e ∷ es) - 1 ≡ suc (length (e ∷ es) - 1) = omega arith in
-    ap (λ k. slice_get (d ∷ e ∷ es) k) n
 
 -- some cell of its column comes before it where the last one does
 pub place_before : (c : RunCell) (ds : List RunCell) → AllBefore c ds → Rises ds → list_any (is_at c) ds ≡ has_place c (last_of ds)

@@ -1,11 +1,11 @@
 -- What was written is read back.
-use Rattle.std.proofs.Common.{◌≡◌, ℕ, lit<, zero, suc, ◌+◌, ◌-◌, ◌^◌, ◌<◌, ◌≤◌, ◌&&◌, ◌||◌, Bool, true, false, cond, eqb, List, [], ◌∷◌, ◌++◌, length, take, drop, slice_get, Option, Some, None, refl, sym, ap, subst, ◌∙◌, append_assoc, arith, length-append}
+use Rattle.std.proofs.Common.{◌≡◌, ℕ, lit<, ◌-◌, ◌^◌, ◌<◌, ◌&&◌, ◌||◌, Bool, true, false, cond, eqb, List, [], ◌∷◌, ◌++◌, length, take, drop, slice_get, Option, Some, None, refl, sym, ap, subst, ◌∙◌, append_assoc, arith, length-append}
 use Rattle.std.specs.Prelude.{is_none, All}
 use Rattle.std.specs.List.{flat_map}
-use Rattle.std.proofs.lemmas.Bool.{le-ltb, ltb-false}
+use Rattle.std.proofs.lemmas.Bool.{le-ltb}
 use Rattle.std.proofs.lemmas.List.{take-append-drop, append-nil}
 use Rattle.std.proofs.lemmas.List.Elements.{All-head, All-tail}
-use Rattle.std.proofs.Math.Seq.{take-append_seam, drop-append_seam, take_at, drop_at}
+use Rattle.std.proofs.Math.Seq.{take_at, drop_at}
 use Rattle.byteorder.specs.Endian.{big_number, big_bytes}
 use Rattle.byteorder.specs.Numbers.{big_number-reads_back, length-bytes_high_first}
 use Rattle.rep_types.specs.Text.{name_refusal, key_refusal}
@@ -13,18 +13,17 @@ use Rattle.rep_types.specs.declared.cell.CellKind.{CellKind}
 use Rattle.rep_types.specs.declared.cell.CellKind.TheVariants.{Put, Erase}
 use Rattle.rep_types.specs.declared.entry.Rank.{Rank}
 use Rattle.rep_types.specs.declared.text.TextError.{TextError}
-use Rattle.wal_entry.specs.Frame.{is_name, is_key}
 use Rattle.wal_entry.specs.Spelling.{sized}
 use Rattle.wal_entry.proofs.Places.{IsBytes, IsBytes-front}
 use Rattle.wal_entry.proofs.Texts.{IsText-name, IsText-key}
 use Rattle.store_file.specs.declared.cell.RunCell.{RunCell}
 use Rattle.store_file.specs.Order.{is_behind, are_behind, are_in_order}
-use Rattle.store_file.specs.Fields.{Read, FieldsValue, and_then, front, number, text, rank_bytes, value_bytes, fields, is_allowed, kind_of, cell_of}
-use Rattle.store_file.specs.Run.{Verdict, Run, Broken, last_of, cells, verdict}
+use Rattle.store_file.specs.Fields.{Read, FieldsValue, front, number, text, rank_bytes, value_bytes, fields, is_allowed, kind_of, cell_of}
+use Rattle.store_file.specs.Run.{Run, last_of, cells, verdict}
 use Rattle.store_file.specs.Spelling.{kind_number, value_spelling, rank_spelling, place_spelling, version_spelling, cell_spelling, run_spelling, IsShort, IsTypedCell}
 use Rattle.store_file.proofs.Judged.{one_taken, all_there, verdict_begins}
 
-not_cut : {A : Type 0} (b : Bool) (x r : A) → cond b None (Some x) ≡ Some r → x ≡ r
+pub not_cut : {A : Type 0} (b : Bool) (x r : A) → cond b None (Some x) ≡ Some r → x ≡ r
 not_cut true x r h = absurd (cc)
 not_cut false x r h = cc
 
@@ -148,7 +147,7 @@ last_pushed xs c =
     let last : length (xs ++ c ∷ []) - 1 ≡ length xs = omega (arith, length-append xs (c ∷ [])) in
     ap (slice_get (xs ++ c ∷ [])) last ∙ got_last xs c
 
-both : (a b : Bool) → (a && b) ≡ true → (a ≡ true) × (b ≡ true)
+pub both : (a b : Bool) → (a && b) ≡ true → (a ≡ true) × (b ≡ true)
 both true true h = (refl, refl)
 both true false h = absurd (cc)
 both false b h = absurd (cc)

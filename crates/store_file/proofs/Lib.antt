@@ -1,3 +1,5 @@
 pub mod Back
+mod Held
 pub mod Judged
+pub mod Ordered
 pub mod Written

@@ -1,5 +1,5 @@
 -- The store after calls on one file.
-use Rattle.std.proofs.Common.{◌≡◌, ◌≢◌, ℕ, ◌+◌, ◌-◌, ◌^◌, ◌<◌, ◌≤◌, List, [], ◌∷◌, ◌++◌, append_assoc, length, take, inl, inr, Option, Some, None, Result, Ok, Err, refl, ap, sym, ◌∙◌, subst, arith}
+use Rattle.std.proofs.Common.{◌≡◌, ◌≢◌, ℕ, ◌-◌, ◌^◌, ◌<◌, ◌≤◌, List, [], ◌∷◌, ◌++◌, append_assoc, length, take, inl, inr, Option, Some, None, Result, Ok, Err, refl, ap, sym, ◌∙◌, subst, arith}
 use Rattle.std.proofs.lemmas.Bool.{cases_lt}
 use Rattle.std.proofs.lemmas.List.{take_all, length-take-le}
 use Rattle.rep_types.specs.declared.state.Call.{Call}
@@ -8,7 +8,6 @@ use Rattle.rep_vault.specs.Tallies.{Tally}
 use Rattle.rep_vault.specs.Calls.{IsFree, IsOpen, longer, synced_whole, part}
 use Rattle.rep_vault.proofs.Counts.{total_kept}
 use Rattle.rep_vault.proofs.Frames.{file_here}
-use Rattle.wal_roll.specs.Blamed.{IsFault}
 use Rattle.wal_roll.specs.Steps.{OnlyFile}
 use Rattle.store_file.specs.declared.cell.RunCell.{RunCell}
 use Rattle.store_file.specs.declared.error.RunError.{RunError}

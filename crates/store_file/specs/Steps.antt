@@ -1,5 +1,5 @@
 -- What the steps of the reader say.
-use Rattle.std.specs.Prelude.{ℕ, ◌≡◌, List, Option, Some, None}
+use Rattle.std.specs.Prelude.{◌≡◌, Option, Some, None}
 use Rattle.store_file.specs.declared.fields.Fields.{Fields}
 use Rattle.store_file.specs.Fields.{Read, FieldsValue}
 

@@ -1,6 +1,7 @@
-ghost use Rattle.std.specs.Prelude.{◌≡◌, ◌≤◌, length};
-ghost use Rattle.store_file.specs.Order.{is_behind};
+ghost use Rattle.std.specs.Prelude.{◌≡◌, ◌≤◌, true, length, All, IfOk};
+ghost use Rattle.store_file.specs.Order.{is_behind, are_in_order};
 ghost use Rattle.store_file.specs.Run.{last_of, verdict};
+ghost use Rattle.store_file.specs.Spelling.{IsShort, IsTypedCell};
 ghost use Rattle.store_file.specs.Stored.{Decodes, Judges, ReadsRun, Tells};
 
 use crate::allowed::cell_of;
@@ -50,7 +51,10 @@ fn take_cell<'a>(
 
 // The cells of a run.
 fn decode_run(alloc: Global, bytes: &[u8]) -> Result<RunCells, RunError>
-    ensures { Decodes result (verdict bytes.now) }
+    ensures does { Decodes result (verdict bytes.now) }
+    ensures order { IfOk result (λ all. are_in_order all ≡ true) }
+    ensures typed { IfOk result (λ all. All IsTypedCell all) }
+    ensures short { IfOk result (λ all. All (λ c. IsShort c.kind) all) }
 {
     if bytes.len() < 8 {
         return Err(RunError::BadRun { at: 0, rule: 1 });
@@ -72,9 +76,12 @@ fn decode_run(alloc: Global, bytes: &[u8]) -> Result<RunCells, RunError>
     }
 }
 
-/// The cells of the run of that name, in order. The file is read once.
+/// The cells of the run of that name, in order; each is such as `write_run` takes. The file is read once.
 pub fn read_run<V: Vault>(alloc: Global, vault: &mut V, name: &str) -> Result<RunCells, RunError>
     ensures does { ReadsRun name.now (V.contents vault.old) result }
+    ensures order { IfOk result (λ all. are_in_order all ≡ true) }
+    ensures typed { IfOk result (λ all. All IsTypedCell all) }
+    ensures short { IfOk result (λ all. All (λ c. IsShort c.kind) all) }
     ensures kept { V.contents vault.new ≡ V.contents vault.old }
     ensures tells { Tells (V.tally vault.old) (V.tally vault.new) result }
 {

@@ -1,4 +1,4 @@
-use Rattle.std.proofs.Common.{◌≡◌, true, false, List, ◌∙◌, ap, sym, rules}
+use Rattle.std.proofs.Common.{◌≡◌, true, false, List, ◌∙◌, ap, sym}
 use Rattle.store_file.specs.declared.cell.RunCell.{RunCell}
 use Rattle.store_file.specs.Order.{is_behind}
 use Rattle.store_file.specs.Run.{last_of, cells}

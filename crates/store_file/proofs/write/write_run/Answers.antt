@@ -1,4 +1,4 @@
-use Rattle.std.proofs.Common.{◌≡◌, ◌∙◌, sym}
+use Rattle.std.proofs.Common.{◌∙◌}
 use Rattle.wal_roll.proofs.Logs.{only_file}
 use Rattle.rep_vault.specs.Contents.{empty_file}
 use Rattle.store_file.specs.Stored.{run}
